@@ -1,0 +1,71 @@
+-- Laws of `count`: at most n, more for a larger set, and what counts say of a set inside another. A set is a test of the
+-- numbers below n. Assumes nothing.
+use Prim.Native.Nat.{ℕ, zero, suc, _+_, _<_, _≤_}
+use mathlib.Core.Path.{_≡_, refl, sym, _∙_}
+use mathlib.Core.Bool.{Bool, true, false, cond, false≢true}
+use native.Mathlib.Nat.{le-refl, not-suc-le-zero}
+use native.Mathlib.Omega.{arith}
+use Rattle.law.specs.Bounded.{count, Inside}
+use Rattle.law.proofs.Bool.{split, clash, same-test}
+use Rattle.law.proofs.Bounded.{by-order, below-suc}
+
+-- what one number adds
+digit-mono : (a b : Bool) → (a ≡ true → b ≡ true) → cond {A = ℕ} a 1 0 ≤ cond b 1 0
+digit-mono true true h = le-refl 1
+digit-mono true false h = absurd (false≢true (h refl))
+digit-mono false b h = omega arith
+
+pub count-le : (p : ℕ → Bool) (n : ℕ) → count p n ≤ n
+unfolding count
+count-le p zero = le-refl 0
+count-le p (suc n) = omega (arith, digit-mono (p n) true (λ t. refl), count-le p n)
+
+-- p inside q: q counts no less, and no more only where q is p
+module _ (p q : ℕ → Bool) where
+  pub count-mono : (n : ℕ) → Inside n p q → count p n ≤ count q n
+  unfolding count
+  count-mono zero inside = le-refl 0
+  count-mono (suc n) inside =
+      omega (arith, digit-mono (p n) (q n) (inside n (le-refl (suc n))), count-mono n (λ i l. inside i (omega arith)))
+
+  pub count-back : (n : ℕ) → Inside n p q → count q n ≤ count p n → Inside n q p
+  unfolding count
+  count-back zero inside few i l e = absurd (not-suc-le-zero l)
+  count-back (suc n) inside few i l e =
+      let before : Inside n p q = λ j g. inside j (omega arith) in
+      let few′ : count q n ≤ count p n = omega (arith, digit-mono (p n) (q n) (inside n (le-refl (suc n)))) in
+      below-suc i n l (λ less. count-back n before few′ i less e)
+      (λ same.
+      rw same
+      (split (p n) (λ t. t)
+      (λ f. let e′ = rw same at e in let stop : ⊥ = omega (arith, count-mono n before, simp (f, e′) at few) in absurd stop)))
+
+  pub count-grows : (n : ℕ) → Inside n p q → (i : ℕ) → i < n → p i ≡ false → q i ≡ true → count p n < count q n
+  count-grows n inside i l f e =
+      by-order (count p n) (count q n) (λ h. h) (λ few. clash (p i) (count-back n inside few i l e) f)
+
+  pub count-equal : (n : ℕ) → Inside n p q → count q n ≤ count p n → (i : ℕ) → i < n → p i ≡ q i
+  count-equal n inside few i l = same-test (p i) (q i) (inside i l) (count-back n inside few i l)
+
+  pub count-same : (n : ℕ) → ((i : ℕ) → i < n → p i ≡ q i) → count p n ≡ count q n
+  unfolding count
+  count-same zero same = refl
+  count-same (suc n) same = cc (same n (le-refl (suc n)), count-same n (λ i l. same i (omega arith)))
+
+-- as many as there are numbers: each passes
+pub count-full : (p : ℕ → Bool) (n : ℕ) → n ≤ count p n → (i : ℕ) → i < n → p i ≡ true
+count-full p n most i l =
+    count-back p (λ j. true) n (λ j g e. refl) (omega (arith, count-le (λ j. true) n)) i l refl
+
+-- Two counts add up where they do at each number.
+pub count-sum :
+    (p q r : ℕ → Bool) (n : ℕ)
+    → ((i : ℕ) → i < n → cond (p i) 1 0 + cond (q i) 1 0 ≡ cond (r i) 1 0)
+    → count p n + count q n ≡ count r n
+unfolding count
+count-sum p q r zero h = refl
+count-sum p q r (suc n) h = omega (arith, h n (le-refl (suc n)), count-sum p q r n (λ i l. h i (omega arith)))
+
+pub count-none : (p : ℕ → Bool) (n : ℕ) → count p n ≡ 0 → (i : ℕ) → i < n → p i ≡ false
+count-none p n e i l =
+    split (p i) (λ t. t ∙ sym (count-back (λ j. false) p n (λ j g f. clash false f refl) (omega arith) i l t)) (λ f. f)
