@@ -1,0 +1,197 @@
+-- What an accepted text has passed, as facts about its numbers, and that a text with these facts is accepted: questions 1 to
+-- 8 of document 01 taken out of their tests, once, for every proof about a text. Assumes nothing.
+use Prim.Native.Nat.{ℕ, zero, suc, _+_, _<_, _≤_}
+use mathlib.Core.Path.{_≡_, refl}
+use mathlib.Core.Bool.{true, _&&_, _||_}
+use mathlib.Core.Logic.{_⊎_, inl, inr, ⊎-elim}
+use native.Mathlib.Numerals.{sub-one}
+use native.Mathlib.Omega.{arith}
+use lib.ListN.{length}
+use lib.Dec.{leb, ltb, eqb, eqb·suc-zero}
+use borrow.Author.Tests.{ltb-true, lt-ltb, leb-true, le-leb, eqb-true, eq-eqb}
+use Rattle.law.specs.Bounded.{first}
+use Rattle.law.proofs.Bool.{and-left, and-right, and-four, or-left, or-right, or-cases}
+use Rattle.law.proofs.Bounded.{all-intro, all-elim, any-intro, any-found}
+use Rattle.law.proofs.Lists.{every-elim, no-first, first-no}
+use Rattle.job.specs.Layout.{Text, formed, states, edges, subformulas, nodes, lengthOf, owner, label, source, target}
+use Rattle.job.specs.Questions.{Question, firstLine, ranges, textLength, lineFields, stateLines, edgeLines, edgesOut, formulaLines, headQuestions, lineQuestions, questions, asked, yes, passes, refusal, Accepted, within, inRanges, formedLine, stateOk, less, ascends, edgeOk, hasEdgeOut, formulaOk}
+use Rattle.job.specs.Job.{Edge}
+use Rattle.job.specs.Written.{Between, Less}
+
+-- the pair on edge line e
+unfoldable pub pair : Text → ℕ → Edge
+pair t e = record { from = source t e; to = target t e }
+
+pub record Passed (t : Text) : Type 0 where
+  pub long : 21 ≤ length t
+  pub head : formed t 0 4 ≡ true
+  pub inStates : Between 1 256 (states t)
+  pub inEdges : Between 1 2048 (edges t)
+  pub inSubformulas : Between 1 32 (subformulas t)
+  pub inNodes : Between 1 8 (nodes t)
+  pub sized : length t ≡ lengthOf t
+  pub further : (i : ℕ) → i < states t + edges t + subformulas t → formedLine t i ≡ true
+  pub owners : (s : ℕ) → s < states t → owner t s < nodes t
+  pub labels : (s : ℕ) → s < states t → label t s ≤ 65535
+  pub ends : (e : ℕ) → e < edges t → (source t e < states t) × (target t e < states t)
+  pub ascending : (e : ℕ) → suc e < edges t → Less (pair t e) (pair t (suc e))
+  pub edgeOut : (s : ℕ) → s < states t → (e : ℕ) × (e < edges t) × (source t e ≡ s)
+  pub formulas : (k : ℕ) → k < subformulas t → formulaOk t k ≡ true
+
+-- A test of a number's range.
+pub within-between : (low high n : ℕ) → within low high n ≡ true → Between low high n
+unfolding within
+within-between low high n e =
+    record {
+      above = leb-true low n (and-left (leb low n) (leb n high) e);
+      below = leb-true n high (and-right (leb low n) (leb n high) e);
+    }
+
+pub between-within : (low high n : ℕ) → Between low high n → within low high n ≡ true
+unfolding within
+between-within low high n b =
+    simp (le-leb low n (b .above), le-leb n high (b .below))
+
+-- Accepted means that each question is answered yes.
+pub accepted-passes : (t : Text) → Accepted t → (q : Question) → passes t q ≡ true
+unfolding Accepted refusal questions headQuestions lineQuestions
+accepted-passes t a = at
+  where
+    nth : (i : ℕ) → i < length questions → passes t (lib.ListN.getD questions i firstLine) ≡ true
+    nth = every-elim (passes t) questions firstLine (no-first (passes t) questions a)
+
+    at : (q : Question) → passes t q ≡ true
+    at firstLine = nth 0 (omega arith)
+    at ranges = nth 1 (omega arith)
+    at textLength = nth 2 (omega arith)
+    at lineFields = nth 3 (omega arith)
+    at stateLines = nth 4 (omega arith)
+    at edgeLines = nth 5 (omega arith)
+    at edgesOut = nth 6 (omega arith)
+    at formulaLines = nth 7 (omega arith)
+
+pub passes-accepted : (t : Text) → ((q : Question) → passes t q ≡ true) → Accepted t
+unfolding Accepted refusal
+passes-accepted t h = first-no (passes t) questions h
+
+-- "compared by from, then by to"
+less-test : (a b c d : ℕ) → (ltb a c || (eqb a c && ltb b d)) ≡ true → (a < c) ⊎ ((a ≡ c) × (b < d))
+less-test a b c d e =
+    ⊎-elim
+    (λ l. inl (ltb-true a c l))
+    (λ r. inr (eqb-true a c (and-left (eqb a c) (ltb b d) r), ltb-true b d (and-right (eqb a c) (ltb b d) r)))
+    (or-cases (ltb a c) (eqb a c && ltb b d) e)
+
+test-less : (a b c d : ℕ) → (a < c) ⊎ ((a ≡ c) × (b < d)) → (ltb a c || (eqb a c && ltb b d)) ≡ true
+test-less a b c d (inl l) = or-left (ltb a c) (eqb a c && ltb b d) (lt-ltb a c l)
+test-less a b c d (inr r) = or-right (ltb a c) (eqb a c && ltb b d) (simp (eq-eqb a c (r .0), lt-ltb b d (r .1)))
+
+-- The tests of questions 5, 6 and 7, each as the facts that it tests.
+module _ (t : Text) where
+  pub state-owner : (s : ℕ) → stateOk t s ≡ true → owner t s < nodes t
+  unfolding stateOk
+  state-owner s e = ltb-true (owner t s) (nodes t) (and-left (ltb (owner t s) (nodes t)) (leb (label t s) 65535) e)
+
+  pub state-label : (s : ℕ) → stateOk t s ≡ true → label t s ≤ 65535
+  unfolding stateOk
+  state-label s e = leb-true (label t s) 65535 (and-right (ltb (owner t s) (nodes t)) (leb (label t s) 65535) e)
+
+  pub state-ok : (s : ℕ) → owner t s < nodes t → label t s ≤ 65535 → stateOk t s ≡ true
+  unfolding stateOk
+  state-ok s o l =
+      simp (lt-ltb (owner t s) (nodes t) o, le-leb (label t s) 65535 l)
+
+  -- a pair is greater than the one before
+  pub ascends-less : (e : ℕ) → ascends t (suc e) ≡ true → Less (pair t e) (pair t (suc e))
+  unfolding ascends less Less pair
+  ascends-less e h = less-test (source t e) (target t e) (source t (suc e)) (target t (suc e)) (simp sub-one at h)
+
+  pub less-ascends : (e : ℕ) → Less (pair t e) (pair t (suc e)) → ascends t (suc e) ≡ true
+  unfolding ascends less Less pair
+  less-ascends e l = simp sub-one (test-less (source t e) (target t e) (source t (suc e)) (target t (suc e)) l)
+
+  pub edge-ends : (e : ℕ) → edgeOk t e ≡ true → (source t e < states t) × (target t e < states t)
+  unfolding edgeOk
+  edge-ends e h =
+      let both = and-left (ltb (source t e) (states t) && ltb (target t e) (states t)) (eqb e 0 || ascends t e) h in (
+        ltb-true (source t e) (states t) (and-left (ltb (source t e) (states t)) (ltb (target t e) (states t)) both),
+        ltb-true (target t e) (states t) (and-right (ltb (source t e) (states t)) (ltb (target t e) (states t)) both),
+      )
+
+  pub edge-less : (e : ℕ) → edgeOk t (suc e) ≡ true → Less (pair t e) (pair t (suc e))
+  unfolding edgeOk
+  edge-less e h =
+      let both = ltb (source t (suc e)) (states t) && ltb (target t (suc e)) (states t) in
+      ascends-less e (rw (eqb·suc-zero e) at (and-right both (eqb (suc e) 0 || ascends t (suc e)) h))
+
+  pub edge-ok : (e : ℕ) → source t e < states t → target t e < states t → (eqb e 0 || ascends t e) ≡ true → edgeOk t e ≡ true
+  unfolding edgeOk
+  edge-ok e a b c =
+      simp (lt-ltb (source t e) (states t) a, lt-ltb (target t e) (states t) b, c)
+
+  pub edge-out : (s : ℕ) → hasEdgeOut t s ≡ true → (e : ℕ) × (e < edges t) × (source t e ≡ s)
+  unfolding hasEdgeOut
+  edge-out s h =
+      let (l, e) = any-found (λ e. eqb (source t e) s) (edges t) h in
+      let found = first (λ e. eqb (source t e) s) (edges t) in
+      (found, l, eqb-true (source t found) s e)
+
+  pub out-edge : (s e : ℕ) → e < edges t → source t e ≡ s → hasEdgeOut t s ≡ true
+  unfolding hasEdgeOut
+  out-edge s e l q = any-intro (λ d. eqb (source t d) s) (edges t) e l (eq-eqb (source t e) s q)
+
+-- All eight together, taken out and put back.
+pub accepted-passed : (t : Text) → Accepted t → Passed t
+unfolding passes asked yes inRanges
+accepted-passed t a =
+    let has = accepted-passes t a in
+    let four = and-four (within 1 256 (states t)) (within 1 2048 (edges t)) (within 1 32 (subformulas t)) (within 1 8 (nodes t)) (has ranges) in
+    record {
+      long = leb-true 21 (length t) (and-left (leb 21 (length t)) (formed t 0 4) (has firstLine));
+      head = and-right (leb 21 (length t)) (formed t 0 4) (has firstLine);
+      inStates = within-between 1 256 (states t) (four .0);
+      inEdges = within-between 1 2048 (edges t) (four .1);
+      inSubformulas = within-between 1 32 (subformulas t) (four .2);
+      inNodes = within-between 1 8 (nodes t) (four .3);
+      sized = eqb-true (length t) (lengthOf t) (has textLength);
+      further = all-elim (formedLine t) (states t + edges t + subformulas t) (has lineFields);
+      owners = λ s l. state-owner t s (all-elim (stateOk t) (states t) (has stateLines) s l);
+      labels = λ s l. state-label t s (all-elim (stateOk t) (states t) (has stateLines) s l);
+      ends = λ e l. edge-ends t e (all-elim (edgeOk t) (edges t) (has edgeLines) e l);
+      ascending = λ e l. edge-less t e (all-elim (edgeOk t) (edges t) (has edgeLines) (suc e) l);
+      edgeOut = λ s l. edge-out t s (all-elim (hasEdgeOut t) (states t) (has edgesOut) s l);
+      formulas = all-elim (formulaOk t) (subformulas t) (has formulaLines);
+    }
+
+pub passed-accepted : (t : Text) → Passed t → Accepted t
+unfolding passes asked yes inRanges
+passed-accepted t p = passes-accepted t has
+  where
+    edgesOk : (e : ℕ) → e < edges t → edgeOk t e ≡ true
+    edgesOk zero l = edge-ok t 0 (p .ends 0 l .0) (p .ends 0 l .1) (or-left (eqb 0 0) (ascends t 0) refl)
+    edgesOk (suc e) l =
+        edge-ok t (suc e) (p .ends (suc e) l .0) (p .ends (suc e) l .1)
+        (or-right (eqb (suc e) 0) (ascends t (suc e)) (less-ascends t e (p .ascending e l)))
+
+    has : (q : Question) → passes t q ≡ true
+    has firstLine = simp (le-leb 21 (length t) (p .long), p .head)
+    has ranges =
+        simp (
+          between-within 1 256 (states t) (p .inStates),
+          between-within 1 2048 (edges t) (p .inEdges),
+          between-within 1 32 (subformulas t) (p .inSubformulas),
+          between-within 1 8 (nodes t) (p .inNodes),
+        )
+    has textLength = eq-eqb (length t) (lengthOf t) (p .sized)
+    has lineFields = all-intro (formedLine t) (states t + edges t + subformulas t) (p .further)
+    has stateLines = all-intro (stateOk t) (states t) (λ s l. state-ok t s (p .owners s l) (p .labels s l))
+    has edgeLines = all-intro (edgeOk t) (edges t) edgesOk
+    has edgesOut =
+        all-intro (hasEdgeOut t) (states t)
+        (λ s l. let (e, g, q) = p .edgeOut s l in out-edge t s e g q)
+    has formulaLines = all-intro (formulaOk t) (subformulas t) (p .formulas)
+
+-- "at most 25,877"
+pub passed-length : (t : Text) → Passed t → length t ≤ 25877
+unfolding lengthOf
+passed-length t p = omega (arith, p .sized)

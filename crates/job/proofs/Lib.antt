@@ -1,0 +1,13 @@
+pub mod FieldLaws
+pub mod LayoutLaws
+pub mod Successors
+pub mod Asked
+pub mod Decimal
+pub mod Formula
+pub mod Line
+pub mod Carries
+pub mod Places
+pub mod Agrees
+pub mod Exact
+pub mod ReaderLaws
+pub mod ReadLaws

@@ -1,0 +1,95 @@
+-- `bad_state`: the state lines passed so far are right.
+use Prim.Native.Nat.{ℕ, _-_, _≤_, _<_}
+use mathlib.Core.Path.{_≡_, sym}
+use mathlib.Core.Bool.{true}
+use borrow.Author.Count.{below-none, below-more}
+use Rattle.law.proofs.Bounded.{first-fails, first-none-fails}
+use Rattle.job.specs.Questions.{stateOk}
+use Rattle.job.proofs.ReaderLaws.{state-no-owner, state-no-label, state-passes}
+use borrow.Author.Needs.{needs}
+use native.Mathlib.Omega.{arith}
+use Rattle.job.proofs.reader.bad_state.Statement.{statement}
+use Rattle.job.proofs.reader.bad_state.Tie as tie
+
+abbrev Inv-loop : tie.InvT-loop
+Inv-loop text states nodes s₀ s = (s ≤ states) × ((j : ℕ) → j < s → stateOk text j ≡ true)
+
+abbrev μ-loop : tie.MeasureT-loop
+μ-loop text states nodes s₀ s = states - s
+
+loop-holds : tie.Need-loop-holds Inv-loop μ-loop
+loop-holds c = (search needs, below-none _)
+
+mul-at : tie.Need-mul-at Inv-loop μ-loop
+mul-at c = search needs
+
+add-at : tie.Need-add-at Inv-loop μ-loop
+add-at c = search needs
+
+number-requires : tie.Need-number-requires Inv-loop μ-loop
+number-requires c κs = search needs
+
+returns : tie.Need-returns Inv-loop μ-loop
+returns c =
+    let a = c .before .before .before .before .before in
+    let l = c .before .before .before .loop in
+    let e = c .before .number .ensures .0 in
+    sym
+    (first-fails (stateOk (a .args .text .now)) (a .args .h .states) (l .s) (omega arith) (l .inv .1)
+    (state-no-owner (a .args .text .now) (a .args .h) (a .pre) (l .s) (omega arith)))
+
+add-number : tie.Need-add-number Inv-loop μ-loop
+add-number c = search needs
+
+number-requires-2 : tie.Need-number-requires-2 Inv-loop μ-loop
+number-requires-2 c κs = search needs
+
+returns-2 : tie.Need-returns-2 Inv-loop μ-loop
+returns-2 c =
+    let a = c .before .before .before .before .before .before .before in
+    let l = c .before .before .before .before .before .loop in
+    let e = c .before .number2 .ensures .0 in
+    sym
+    (first-fails (stateOk (a .args .text .now)) (a .args .h .states) (l .s) (omega arith) (l .inv .1)
+    (state-no-label (a .args .text .now) (a .args .h) (a .pre) (l .s) (omega arith)))
+
+add-s : tie.Need-add-s Inv-loop μ-loop
+add-s c = search needs
+
+loop-less : tie.Need-loop-less Inv-loop μ-loop
+loop-less c = search needs
+
+loop-again : tie.Need-loop-again Inv-loop μ-loop
+loop-again c =
+    let a = c .before .before .before .before .before .before .before in
+    let l = c .before .before .before .before .before .loop in
+    let e = c .before .before .before .number .ensures .0 in
+    let f = c .before .number2 .ensures .0 in (
+      search needs,
+      below-more _ (l .s) (l .inv .1) (state-passes (a .args .text .now) (a .args .h) (a .pre) (l .s) (omega arith) (omega arith)),
+    )
+
+returns-3 : tie.Need-returns-3 Inv-loop μ-loop
+returns-3 c =
+    let a = c .before .before .before in
+    let l = c .before .loop in
+    sym (first-none-fails (stateOk (a .args .text .now)) (a .args .h .states) (λ j g. l .inv .1 j (omega arith)))
+
+pub bad-state-spec : {M : Type 1} → statement M
+bad-state-spec =
+    tie.close
+    (tie.spec
+    Inv-loop
+    μ-loop
+    loop-holds
+    mul-at
+    add-at
+    number-requires
+    returns
+    add-number
+    number-requires-2
+    returns-2
+    add-s
+    loop-less
+    loop-again
+    returns-3)

@@ -1,0 +1,23 @@
+-- `refused_by`: by cases, as the definition.
+use mathlib.Core.Path.{sym, ap}
+use Rattle.job.specs.Read.{refusalOf}
+use borrow.Author.Needs.{needs}
+use Rattle.job.proofs.reader.refused_by.Statement.{statement}
+use Rattle.job.proofs.reader.refused_by.Tie as tie
+
+enum-told : tie.Need-enum-told
+enum-told c = search needs
+
+enum-known-r : tie.Need-enum-known-r
+enum-known-r c = search needs
+
+returns : tie.Need-returns
+unfolding refusalOf
+returns c = ap refusalOf (sym (c .enum-told .given .1))
+
+returns-2 : tie.Need-returns-2
+unfolding refusalOf
+returns-2 c = ap refusalOf (sym (c .before .r .given .1))
+
+pub refused-by-spec : {M : Type 1} → statement M
+refused-by-spec = tie.close (tie.spec enum-told enum-known-r returns returns-2)

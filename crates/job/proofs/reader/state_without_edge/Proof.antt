@@ -1,0 +1,70 @@
+-- `state_without_edge`: the states passed so far are marked, so they have an edge out.
+use Prim.Native.Nat.{ℕ, _-_, _≤_, _<_}
+use mathlib.Core.Path.{_≡_, sym}
+use mathlib.Core.Bool.{true}
+use borrow.Author.Count.{below-none, below-more}
+use Rattle.law.proofs.Bounded.{first-fails, first-none-fails}
+use Rattle.job.specs.Questions.{hasEdgeOut}
+use Rattle.job.proofs.ReaderLaws.{mark-none, mark-some}
+use borrow.Author.Needs.{needs}
+use native.Mathlib.Omega.{arith}
+use Rattle.job.proofs.reader.state_without_edge.Statement.{statement}
+use Rattle.job.proofs.reader.state_without_edge.Tie as tie
+
+abbrev Inv-loop : tie.InvT-loop
+Inv-loop text states found s₀ s = (s ≤ states) × ((j : ℕ) → j < s → hasEdgeOut text j ≡ true)
+
+abbrev μ-loop : tie.MeasureT-loop
+μ-loop text states found s₀ s = states - s
+
+sources-requires : tie.Need-sources-requires Inv-loop μ-loop
+sources-requires c κs = search needs
+
+loop-holds : tie.Need-loop-holds Inv-loop μ-loop
+loop-holds c = (search needs, below-none _)
+
+array-read-if1 : tie.Need-array-read-if1 Inv-loop μ-loop
+array-read-if1 c = search needs
+
+returns : tie.Need-returns Inv-loop μ-loop
+returns c =
+    let a = c .before .before .before .before .before in
+    let l = c .before .before .loop in
+    let f = a .pre .0 in
+    sym
+    (first-fails (hasEdgeOut (a .args .text .now)) (a .args .h .states) (l .s) (omega arith) (l .inv .1)
+    (mark-none _ (c .before .before .before .sources .ensures (l .s) (omega arith)) (c .if1 .taken)))
+
+add-s : tie.Need-add-s Inv-loop μ-loop
+add-s c = search needs
+
+loop-less : tie.Need-loop-less Inv-loop μ-loop
+loop-less c = search needs
+
+loop-again : tie.Need-loop-again Inv-loop μ-loop
+loop-again c =
+    let a = c .before .before .before .before .before in
+    let l = c .before .before .loop in
+    let f = a .pre .0 in
+    (search needs, below-more _ (l .s) (l .inv .1) (mark-some _ (c .before .before .before .sources .ensures (l .s) (omega arith)) (c .if1 .left)))
+
+returns-2 : tie.Need-returns-2 Inv-loop μ-loop
+returns-2 c =
+    let a = c .before .before .before .before in
+    let l = c .before .loop in
+    sym (first-none-fails (hasEdgeOut (a .args .text .now)) (a .args .h .states) (λ j g. l .inv .1 j (omega arith)))
+
+pub state-without-edge-spec : {M : Type 1} → statement M
+state-without-edge-spec =
+    tie.close
+    (tie.spec
+    Inv-loop
+    μ-loop
+    sources-requires
+    loop-holds
+    array-read-if1
+    returns
+    add-s
+    loop-less
+    loop-again
+    returns-2)

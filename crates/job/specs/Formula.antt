@@ -1,0 +1,51 @@
+-- Document 01, "Kinds: 1 atom a; 2 not a; 3 a and b; 4 AX a; 5 EX a; 6 A(a U b); 7 E(a U b)": the line of subformula k as an
+-- enum case with its operands, or malformed. "For kind 1, a is 0 to 15. For the others a is a smaller subformula number. For
+-- kinds 3, 6 and 7 so is b; elsewhere b is 0." Assumes nothing.
+use Prim.Native.Nat.{ℕ}
+use mathlib.Core.Bool.{Bool, true, false, cond, _&&_}
+use lib.Dec.{leb, ltb, eqb}
+use Rattle.job.specs.declared.subformula.Subformula.{Subformula}
+use Rattle.job.specs.declared.subformula.Subformula.the-variants.{Atom, Not, And, Ax, Ex, Au, Eu}
+use Rattle.job.specs.declared.subformula.Parsed.{Parsed}
+use Rattle.job.specs.declared.subformula.Parsed.the-variants.{Formula, Malformed}
+
+-- an atom
+unfoldable pub atomic : ℕ → ℕ → Parsed
+atomic a b = cond (leb a 15 && eqb b 0) (Formula (Atom a)) Malformed
+
+-- f, if a is a smaller number than k and b is 0
+unfoldable pub unary : ℕ → ℕ → ℕ → Subformula → Parsed
+unary k a b f = cond (ltb a k && eqb b 0) (Formula f) Malformed
+
+-- f, if a and b are smaller numbers than k
+unfoldable pub binary : ℕ → ℕ → ℕ → Subformula → Parsed
+binary k a b f = cond (ltb a k && ltb b k) (Formula f) Malformed
+
+unfoldable pub parsed : ℕ → ℕ → ℕ → ℕ → Parsed
+parsed k kind a b =
+    cond (eqb kind 1) (atomic a b)
+    (cond (eqb kind 2) (unary k a b (Not a))
+    (cond (eqb kind 3) (binary k a b (And a b))
+    (cond (eqb kind 4) (unary k a b (Ax a))
+    (cond (eqb kind 5) (unary k a b (Ex a))
+    (cond (eqb kind 6) (binary k a b (Au a b))
+    (cond (eqb kind 7) (binary k a b (Eu a b)) Malformed))))))
+
+unfoldable pub isFormula : Parsed → Bool
+isFormula (Formula f) = true
+isFormula Malformed = false
+
+-- The subformula of a line that is not malformed.
+unfoldable pub formula : Parsed → Subformula
+formula (Formula f) = f
+formula Malformed = Atom 0
+
+-- "Kinds 4 to 7 are temporal."
+unfoldable pub temporal : Subformula → Bool
+temporal (Atom a) = false
+temporal (Not a) = false
+temporal (And a b) = false
+temporal (Ax a) = true
+temporal (Ex a) = true
+temporal (Au a b) = true
+temporal (Eu a b) = true

@@ -1,0 +1,40 @@
+-- What the reader's leaves are given and what they promise, short of a whole answer. Assumes nothing.
+use Prim.Native.Nat.{ℕ, _+_, _*_, _≤_, _<_}
+use mathlib.Core.Path.{_≡_}
+use mathlib.Core.Bool.{true}
+use mathlib.Core.List.{List}
+use lib.ListN.{length, getD}
+use lib.Seq.{slice}
+use Rattle.job.specs.Field.{columns, field}
+use Rattle.job.specs.Layout.{Text, states, edges, subformulas, nodes, source}
+use Rattle.job.specs.Questions.{firstLine, ranges, textLength, passes}
+use Rattle.job.specs.declared.reader.Header.{Header}
+
+-- r spaces stand before anything else in the field at this offset.
+pub record Skipped (t : List ℕ) (at r : ℕ) : Type 0 where
+  pub within : r ≤ 5
+  pub rest : field t at ≡ columns (slice (at + r) (at + 5) t)
+  pub stops : r < 5 → getD t (at + r) 0 ≡ 32 → ⊥
+
+-- Questions 1 to 3 are answered yes, and h has the numbers of line 1.
+pub record Fits (t : Text) (h : Header) : Type 0 where
+  pub states-are : states t ≡ h .states
+  pub edges-are : edges t ≡ h .edges
+  pub subformulas-are : subformulas t ≡ h .subformulas
+  pub nodes-are : nodes t ≡ h .nodes
+  pub states-from : 1 ≤ h .states
+  pub states-to : h .states ≤ 256
+  pub edges-from : 1 ≤ h .edges
+  pub edges-to : h .edges ≤ 2048
+  pub subformulas-from : 1 ≤ h .subformulas
+  pub subformulas-to : h .subformulas ≤ 32
+  pub nodes-from : 1 ≤ h .nodes
+  pub nodes-to : h .nodes ≤ 8
+  pub sized : length t ≡ 21 + 11 * h .states + 11 * h .edges + 16 * h .subformulas
+  pub line-formed : passes t firstLine ≡ true
+  pub in-ranges : passes t ranges ≡ true
+  pub length-right : passes t textLength ≡ true
+
+-- Each edge line starts from one of at most 256 states.
+abbrev pub SourcesInside : Text → Type 0
+SourcesInside t = (e : ℕ) → e < edges t → source t e < 256

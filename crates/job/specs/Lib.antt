@@ -1,0 +1,9 @@
+pub mod Field
+pub mod Layout
+pub mod Formula
+pub mod Questions
+pub mod Answer
+pub mod Read
+pub mod Job
+pub mod Written
+pub mod Leaves

@@ -1,0 +1,49 @@
+-- The calls read and line. Document 01: "Read puts 1 to 8 ..; read also gives S, E, K, N." "The call line takes a text and a
+-- line number and hands back that part of the caller's text without byte 10; the line is found by the lengths above and its
+-- last byte is dropped unread; the part is empty if questions 1 to 3 fail or no such line exists." Assumes nothing.
+use Prim.Native.Nat.{ℕ, _*_}
+use mathlib.Core.Bool.{cond, _&&_}
+use mathlib.Core.List.{List, [], _∷_}
+use mathlib.Core.Option.{Option}
+use mathlib.Core.Option as opt
+use lib.ListN.{take, drop}
+use lib.Dec.{leb}
+use Rattle.law.specs.Lists.{firstNo}
+use Rattle.job.specs.Layout.{Text, states, edges, subformulas, nodes, lines, fieldsOf, lineAt}
+use Rattle.job.specs.Questions.{Question, firstLine, ranges, textLength, numberOf, headQuestions, asked, noLine, passes, refusal}
+use Rattle.job.specs.Answer.{Answer, accepted, refused}
+use Rattle.job.specs.declared.reader.Header.{Header}
+use Rattle.job.specs.declared.reader.Refusal.{Refusal}
+use Rattle.job.specs.declared.reader.Reading.{Reading}
+use Rattle.job.specs.declared.reader.Reading.the-variants.{Accepted, Refused}
+
+-- own numbers where no question is answered no, else the refusal by that question
+unfoldable pub unless : Text → Option Question → List ℕ → Answer
+unless t opt.none own = accepted own
+unless t (opt.some q) own = refused (numberOf q) (noLine (asked q t))
+
+unfoldable pub header : Text → List ℕ
+header t = states t ∷ edges t ∷ subformulas t ∷ nodes t ∷ []
+
+unfoldable pub readAnswer : Text → Answer
+readAnswer t = unless t (refusal t) (header t)
+
+-- The answer to questions 1 to 3 alone.
+unfoldable pub headAnswer : Text → Answer
+headAnswer t = unless t (firstNo (passes t) headQuestions) (header t)
+
+-- What each case of the reader's enum says, in document 01's numbers.
+unfoldable pub readTold : Reading → Answer
+readTold (Accepted h) = accepted (h .states ∷ h .edges ∷ h .subformulas ∷ h .nodes ∷ [])
+readTold (Refused why) = refused (why .number) (why .line)
+
+-- The refusal in the reader's answer.
+unfoldable pub refusalOf : Reading → Refusal
+refusalOf (Accepted h) = record { number = 0; line = 0 }
+refusalOf (Refused why) = why
+
+unfoldable pub lineOf : Text → ℕ → List ℕ
+lineOf t l =
+    cond (passes t firstLine && passes t ranges && passes t textLength && leb 1 l && leb l (lines t))
+    (take (5 * fieldsOf t l) (drop (lineAt t l) t))
+    []
