@@ -1,0 +1,6 @@
+pub mod Labelling
+pub mod Total
+pub mod Reached
+pub mod Walks
+pub mod Untils
+pub mod Truth

@@ -1,0 +1,64 @@
+-- Walks made by hand, and until on them: a walk that starts a place later, one that starts a place earlier, and one that follows a
+-- rule for ever. Assumes nothing.
+use Prim.Native.Nat.{ℕ, zero, suc, _<_}
+use mathlib.Core.Path.{_≡_, refl, subst}
+use native.Mathlib.Nat.{not-suc-le-zero, le-of-suc-le-suc}
+use Rattle.job.specs.Job.{Structure}
+use Rattle.ctl.specs.Truth.{Predicate, Edge, Walk, Until}
+use Rattle.ctl.proofs.Total.{State, Total}
+
+-- A walk without its first state, and one with a state before it.
+abbrev pub walk-tail : (M : Structure) (s : ℕ) (w : Walk M s) → Walk M (w .at 1)
+walk-tail M s w = record { at = λ i. w .at (suc i); starts = refl; steps = λ i. w .steps (suc i) }
+
+abbrev pub before : ℕ → (ℕ → ℕ) → ℕ → ℕ
+before s at zero = s
+before s at (suc i) = at i
+
+abbrev pub walk-before : (M : Structure) (s t : ℕ) → Edge M s t → Walk M t → Walk M s
+walk-before M s t e w = record { at = before s (w .at); starts = refl; steps = steps }
+  where
+    steps : (i : ℕ) → Edge M (before s (w .at) i) (w .at i)
+    steps zero = rw (w .starts) e
+    steps (suc i) = w .steps i
+
+-- An until holds at once where B does, and one place later where A does and the walk goes on as one on which it holds.
+module _ (M : Structure) (A B : Predicate) where
+  pub until-here : (s : ℕ) (w : Walk M s) → B s → Until M A B s w
+  until-here s w b = record { place = zero; reached = rw (w .starts) b; before = λ i h. absurd (not-suc-le-zero h) }
+
+  pub until-later :
+      (s t : ℕ) (w : Walk M s) (v : Walk M t)
+      → ((i : ℕ) → v .at i ≡ w .at (suc i))
+      → A s
+      → Until M A B t v
+      → Until M A B s w
+  until-later s t w v same a u =
+      record { place = suc (u .place); reached = subst B (same (u .place)) (u .reached); before = earlier }
+    where
+      earlier : (i : ℕ) → i < suc (u .place) → A (w .at i)
+      earlier zero h = rw (w .starts) a
+      earlier (suc i) h = subst A (same i) (u .before i (le-of-suc-le-suc h))
+
+-- The places of a walk are states, and a rule that has a next state for each state gives a walk that follows it for ever.
+module _ (M : Structure) (total : Total M) where
+  pub walk-state : (s : ℕ) (w : Walk M s) (i : ℕ) → State M (w .at i)
+  walk-state s w i = total .inside (w .at i) (w .at (suc i)) (w .steps i) .0
+
+  pub walk-by :
+      (R : ℕ → ℕ → Type 0)
+      → ((s : ℕ) → State M s → (t : ℕ) × Edge M s t × R s t)
+      → (s : ℕ) → State M s
+      → (w : Walk M s) × ((i : ℕ) → R (w .at i) (w .at (suc i)))
+  walk-by R next s l = (
+    record { at = λ i. on i .0; starts = refl; steps = λ i. next (on i .0) (on i .1) .1 },
+    λ i. next (on i .0) (on i .1) .2,
+  )
+    where
+      on : ℕ → (t : ℕ) × State M t
+      on zero = (s, l)
+      on (suc i) = let (t, e, r) = next (on i .0) (on i .1) in (t, total .inside (on i .0) t e .1)
+
+  -- with no rule but the edges
+  pub walk-on : (s : ℕ) → State M s → Walk M s
+  walk-on s l = walk-by (λ s t. Unit {0}) (λ s l. let (t, e) = total .onward s l in (t, e, tt)) s l .0
