@@ -1,0 +1,98 @@
+-- Document 01's calls on a table. For each its questions in order, and for any text, any table and any numbers passed its whole
+-- answer and the whole table afterwards: the functions that the contracts cite and that demand 3 is about. Assumes nothing.
+use Prim.Native.Nat.{ℕ}
+use mathlib.Core.Bool.{cond}
+use mathlib.Core.List.{List, [], _∷_, _++_, map}
+use mathlib.Core.Option.{Option}
+use mathlib.Core.Option as opt
+use lib.Dec.{eqb}
+use Rattle.law.specs.Lists.{firstNo}
+use Rattle.job.specs.Layout.{Text}
+use Rattle.job.specs.Job.{Job, decode}
+use Rattle.job.specs.Answer.{Answer, accepted, refused}
+use Rattle.job.specs.Questions as text
+use Rattle.cells.specs.Table.{Table, cell, ownerCell, filled, freshTable}
+use Rattle.cells.specs.Step.{stepTable}
+use Rattle.cells.specs.Close.{acceptTable, smallestOpen, closeTable}
+use Rattle.cells.specs.Finish as finishing
+use Rattle.cells.specs.Questions.{Question, ofText, tableSize, tableCells, node, nodeOr255, numbers, temporal, ownerFilled, truthValue, border, agrees, inFragment, settled, someOpen, numberOf, lineOf, passes}
+
+-- A call with the numbers passed: nodes, states, subformulas, values, in document 01's order.
+pub data Call : Type 0 where
+  fresh : Call
+  step : ℕ → Call
+  offer : ℕ → ℕ → Call
+  accept : ℕ → ℕ → ℕ → ℕ → Call
+  look : ℕ → ℕ → ℕ → Call
+  close : Call
+  finish : Call
+
+-- "Node 255 means that no node is named and is read as node 0."
+unfoldable pub nodeRead : ℕ → ℕ
+nodeRead n = cond (eqb n 255) 0 n
+
+-- "Fresh 1 to 9; step 1 to 11; offer 1 to 10, 12 to 14; accept 1 to 13, 15 to 17; look 1 to 12, 18; close 1 to 10, 19, 20;
+-- finish 1 to 10."
+unfoldable pub ownQuestions : Call → List Question
+ownQuestions fresh = tableSize ∷ []
+ownQuestions (step n) = tableSize ∷ tableCells ∷ node n ∷ []
+ownQuestions (offer s k) = tableSize ∷ tableCells ∷ numbers s k ∷ temporal k ∷ ownerFilled s k ∷ []
+ownQuestions (accept n s k v) =
+    tableSize ∷ tableCells ∷ node n ∷ numbers s k ∷ temporal k ∷ truthValue v ∷ border n s ∷ agrees n s k v ∷ []
+ownQuestions (look n s k) = tableSize ∷ tableCells ∷ nodeOr255 n ∷ numbers s k ∷ inFragment (nodeRead n) s ∷ []
+ownQuestions close = tableSize ∷ tableCells ∷ settled ∷ someOpen ∷ []
+ownQuestions finish = tableSize ∷ tableCells ∷ []
+
+-- "A call .. that takes a job puts 1 to 8 before questions of its own."
+unfoldable pub questions : Call → List Question
+questions c = map ofText text.questions ++ ownQuestions c
+
+unfoldable pub refusal : Call → Text → Table → Option Question
+refusal c x t = firstNo (passes x t) (questions c)
+
+-- How many numbers an answer has besides number and line.
+unfoldable pub width : Call → ℕ
+width fresh = 0
+width (step n) = 1
+width (offer s k) = 3
+width (accept n s k v) = 1
+width (look n s k) = 1
+width close = 2
+width finish = 3
+
+-- These numbers where the call is accepted for job J.
+unfoldable pub told : Call → Job → Table → List ℕ
+told fresh J t = []
+told (step n) J t = filled t (stepTable J n t) ∷ []
+told (offer s k) J t = s ∷ k ∷ ownerCell J t s k ∷ []
+told (accept n s k v) J t = filled t (acceptTable J n s k v t) ∷ []
+told (look n s k) J t = cell J t (nodeRead n) s k ∷ []
+told close J t = smallestOpen J t ∷ filled t (closeTable J t) ∷ []
+told finish J t =
+    let done = finishing.finish J t in
+    finishing.verdict J (done .table) ∷ done .rounds ∷ done .cells ∷ []
+
+-- The table where the call is accepted for job J.
+unfoldable pub left : Call → Job → Table → Table
+left fresh J t = freshTable t
+left (step n) J t = stepTable J n t
+left (offer s k) J t = t
+left (accept n s k v) J t = acceptTable J n s k v t
+left (look n s k) J t = t
+left close J t = closeTable J t
+left finish J t = finishing.finish J t .table
+
+unfoldable pub answerUnless : Option Question → Call → Text → Table → Answer
+answerUnless opt.none c x t = accepted (told c (decode x) t)
+answerUnless (opt.some q) c x t = refused (numberOf q) (lineOf x q)
+
+-- "A refusal: the table and any other lent bytes stay."
+unfoldable pub afterUnless : Option Question → Call → Text → Table → Table
+afterUnless opt.none c x t = left c (decode x) t
+afterUnless (opt.some q) c x t = t
+
+unfoldable pub answer : Call → Text → Table → Answer
+answer c x t = answerUnless (refusal c x t) c x t
+
+unfoldable pub after : Call → Text → Table → Table
+after c x t = afterUnless (refusal c x t) c x t

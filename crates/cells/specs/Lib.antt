@@ -1,0 +1,11 @@
+pub mod Fragment
+pub mod Table
+pub mod SetRule
+pub mod Step
+pub mod Close
+pub mod Finish
+pub mod Questions
+pub mod Calls
+pub mod Told
+pub mod Cases
+pub mod RuledOut
