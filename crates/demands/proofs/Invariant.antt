@@ -1,0 +1,124 @@
+-- What every call of a list of demand 3 keeps: the table is sound, and each message handed out so far is true. Truth does not
+-- mention the table, so a message stays true however late, often or overtaken it comes. Assumes nothing.
+use Prim.Native.Nat.{ℕ}
+use mathlib.Core.Path.{_≡_, refl, sym, subst}
+use mathlib.Core.List.{List, [], _∷_, _++_, List·Memᴰ, List·Memᴰ·not-nil, List·Memᴰ·append-cases, List·Memᴰ·eq-of-singleton}
+use mathlib.Core.Logic.{⊎-elim}
+use mathlib.Core.Option as opt
+use Rattle.job.specs.Layout.{Text}
+use Rattle.job.specs.Job.{Job, decode}
+use Rattle.job.specs.Answer.{Answer, accepted}
+use Rattle.job.specs.Questions.{Accepted}
+use Rattle.job.specs.Written.{IsJob}
+use Rattle.job.proofs.Exact.{decode-is-job}
+use Rattle.cells.specs.Table.{Table}
+use Rattle.cells.specs.Calls.{Call, fresh, step, offer, accept, look, close, finish, refusal, told, left, answer, after}
+use Rattle.demands.specs.Demand3.{Made, Message, run, handedOut, Allowed, isRefused, isMeant, Meant, FreshFor, answerTo, tableAfter}
+use Rattle.cells.proofs.Tells.{Tells}
+use Rattle.cells.proofs.Sound.{truth, Sound, freshTable-sound, ownerCell-tells, stepTable-sound, acceptTable-sound}
+use Rattle.cells.proofs.Settled.{settled-is}
+use Rattle.cells.proofs.Close.{closeTable-sound}
+use Rattle.cells.proofs.Verdict.{finish-sound}
+use Rattle.demands.proofs.Calls.{refused-stays, accepted-taken, by-refusal, taken-told, taken-left, fresh-asked, step-asked, offer-asked, accept-asked, close-asked}
+
+abbrev MessageTrue : Job → Message → Type 0
+MessageTrue J m = Tells 1 (m .value) (truth J (m .subformula) (m .state))
+
+pub record Invariant (J : Job) (out : List Message) (t : Table) : Type 0 where
+  pub sound : Sound J t
+  pub true-out : (m : Message) → List·Memᴰ m out → MessageTrue J m
+
+module _ (x : Text) (is : Accepted x) where
+  abbrev J : Job
+  J = decode x
+
+  job : IsJob J
+  job = decode-is-job x is
+
+  -- An accepted call, where the message of an accept is true.
+  module _ (t : Table) (sound : Sound J t) where
+    left-sound :
+        (c : Call)
+        → refusal c x t ≡ opt.none
+        → ((n s k v : ℕ) → c ≡ accept n s k v → MessageTrue J (record { state = s; subformula = k; value = v }))
+        → Sound J (left c J t)
+    unfolding left
+    left-sound fresh taken message = freshTable-sound J t (sound .formed .long)
+    left-sound (step n) taken message = stepTable-sound J job n (step-asked x t n taken) t sound
+    left-sound (offer s k) taken message = sound
+    left-sound (accept n s k v) taken message =
+        acceptTable-sound J job t sound n s k v (accept-asked x t n s k v taken) (message n s k v refl)
+    left-sound (look n s k) taken message = sound
+    left-sound close taken message =
+        let (still, some) = close-asked x t taken in
+        closeTable-sound J job t sound (settled-is J t (sound .formed .long) still) some
+    left-sound finish taken message = finish-sound J job t sound
+
+    -- what it hands out is true
+    handed-true :
+        (c : Call)
+        → refusal c x t ≡ opt.none
+        → (m : Message)
+        → List·Memᴰ m (handedOut (accepted (told c J t)) c)
+        → MessageTrue J m
+    unfolding handedOut told
+    handed-true fresh taken m h = absurd (List·Memᴰ·not-nil h)
+    handed-true (step n) taken m h = absurd (List·Memᴰ·not-nil h)
+    handed-true (offer s k) taken m h =
+        let (state, subformula) = offer-asked x t s k taken in
+        subst (MessageTrue J) (sym (List·Memᴰ·eq-of-singleton h)) (ownerCell-tells J job t sound s k state subformula)
+    handed-true (accept n s k v) taken m h = absurd (List·Memᴰ·not-nil h)
+    handed-true (look n s k) taken m h = absurd (List·Memᴰ·not-nil h)
+    handed-true close taken m h = absurd (List·Memᴰ·not-nil h)
+    handed-true finish taken m h = absurd (List·Memᴰ·not-nil h)
+
+  module _ (out : List Message) (t : Table) (before : Invariant J out t) where
+    abbrev Kept : Call → Text → Type 0
+    Kept c y = Invariant J (handedOut (answer c y t) c ++ out) (after c y t)
+
+    refused-keeps : (c : Made) (number line : ℕ) → answerTo c t ≡ Answer.refused number line → Kept (c .call) (c .text)
+    unfolding handedOut
+    refused-keeps c number line e =
+        rw (refused-stays (c .call) (c .text) t number line e, e) before
+
+    taken-keeps :
+        (c : Call)
+        → refusal c x t ≡ opt.none
+        → ((n s k v : ℕ) → c ≡ accept n s k v → List·Memᴰ (record { state = s; subformula = k; value = v }) out)
+        → Kept c x
+    taken-keeps c taken message =
+        rw (taken-left c x t taken, taken-told c x t taken)
+        (record {
+          sound =
+              left-sound t (before .sound) c taken
+              (λ n s k v e. before .true-out (record { state = s; subformula = k; value = v }) (message n s k v e));
+          true-out =
+              λ m h.
+              ⊎-elim (handed-true t (before .sound) c taken m) (before .true-out m)
+              (List·Memᴰ·append-cases (handedOut (accepted (told c J t)) c) h);
+        })
+
+    allowed-keeps : (c : Made) → Allowed x out t c → Kept (c .call) (c .text)
+    allowed-keeps c (isRefused number line e) = refused-keeps c number line e
+    allowed-keeps c (isMeant same message) =
+        rw same
+        (by-refusal (c .call) x t (refused-keeps (record { text = x; call = c .call })) (λ taken. taken-keeps (c .call) taken message))
+
+  meant-sound : (calls : List Made) (out : List Message) (t : Table) → Invariant J out t → Meant x out t calls → Sound J (run calls t)
+  unfolding run Meant
+  meant-sound [] out t before meant = before .sound
+  meant-sound (c ∷ calls) out t before (allowed, meant) =
+      meant-sound calls (handedOut (answerTo c t) (c .call) ++ out) (tableAfter c t) (allowed-keeps out t before c allowed) meant
+
+  -- A fresh table has no filled cell, and nothing is handed out yet.
+  pub run-sound : (start : Table) → FreshFor x start → (calls : List Made) → Meant x [] start calls → Sound J (run calls start)
+  unfolding left
+  run-sound start new calls =
+      let taken = accepted-taken fresh x (new .before) [] (new .told) in
+      meant-sound calls [] start
+      (record {
+        sound =
+            rw (new .left, taken-left fresh x (new .before) taken)
+            (freshTable-sound J (new .before) (fresh-asked x (new .before) taken));
+        true-out = λ m h. absurd (List·Memᴰ·not-nil h);
+      })

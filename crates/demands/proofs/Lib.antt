@@ -1,0 +1,5 @@
+pub mod Calls
+pub mod Invariant
+pub mod Ends
+pub mod Demand3
+pub mod Example
