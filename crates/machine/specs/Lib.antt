@@ -1,0 +1,4 @@
+pub mod Decoded
+pub mod Loops
+pub mod Fragments
+pub mod Held
