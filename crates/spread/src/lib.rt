@@ -1,0 +1,2 @@
+// The least set of a rule that goes from a state's successors to the state: one worklist for every set rule.
+pub mod spread;
