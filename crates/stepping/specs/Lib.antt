@@ -1,0 +1,3 @@
+pub mod Values
+pub mod Sets
+pub mod Task

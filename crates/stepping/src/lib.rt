@@ -1,0 +1,6 @@
+// The step of one node on the decoded arrays, in place: column by column, the subformulas from 0 upward.
+pub mod column;
+pub mod filling;
+pub mod local;
+pub mod sets;
+pub mod step;
