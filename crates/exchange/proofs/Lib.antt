@@ -1,0 +1,5 @@
+pub mod CellLaws
+pub mod PartLaws
+pub mod PutLaws
+pub mod Checks
+pub mod FromHeld
