@@ -1,7 +1,7 @@
 -- Questions 1 to 8 of a call are the reader's. A text that the reader refuses is refused so by every call, and the table stays;
 -- on a text that it accepts a call is refused by the first no to its own questions. Assumes nothing.
 use Prim.Native.Nat.{ℕ, _*_}
-use mathlib.Core.Path.{_≡_, refl, _∙_, ap, ap₂}
+use mathlib.Core.Path.{_≡_, refl, sym, _∙_, ap, ap₂}
 use mathlib.Core.List.{List, [], _∷_, map}
 use mathlib.Core.Option.{Option, Option·map, Option·elim}
 use mathlib.Core.Option as opt
@@ -13,9 +13,11 @@ use Rattle.law.proofs.FirstNo.{firstNo-append, firstNo-map}
 use Rattle.job.specs.Layout.{Text}
 use Rattle.job.specs.Answer.{accepted, refused}
 use Rattle.job.specs.Questions as text
-use Rattle.job.specs.Read.{unless, readAnswer, readTold}
+use Rattle.job.specs.Read.{unless, readAnswer, readTold, refusalOf}
 use Rattle.job.specs.declared.reader.Header.{Header}
-use Rattle.job.specs.declared.reader.Reading.the-variants.{Accepted}
+use Rattle.job.specs.declared.reader.Refusal.{Refusal}
+use Rattle.job.specs.declared.reader.Reading.{Reading}
+use Rattle.job.specs.declared.reader.Reading.the-variants.{Accepted, Refused}
 use Rattle.job.proofs.ReadLaws.{size-read, depth-read, nodes-read}
 use Rattle.job.specs.Job.{decode}
 use Rattle.cells.specs.Table.{Table, tableLength, freshTable}
@@ -52,6 +54,18 @@ module _ (c : Call) (x : Text) (t : Table) where
       by-refusal opt.none h = let never : _≡_ {A = ℕ} 0 1 = cc (rw h at e) in absurd (omega arith)
       by-refusal (opt.some q) h = rw (refusal-text q h) (rw h at e, refl)
 
+  -- so in the reader's own words
+  pub reading-refused :
+      (reading : Reading) (why by : Refusal)
+      → readTold reading ≡ readAnswer x
+      → reading ≡ Refused why
+      → by ≡ refusalOf reading
+      → (refused (by .number) (by .line) ≡ answer c x t) × (t ≡ after c x t)
+  unfolding readTold refusalOf
+  reading-refused reading why by read is same =
+      let by-is : by ≡ why = same ∙ ap refusalOf is in
+      rw by-is (text-refused (why .number) (why .line) (sym (ap readTold is) ∙ read))
+
   pub own-asked : (own : List ℕ) → accepted own ≡ readAnswer x → refusal c x t ≡ firstNo (passes x t) (ownQuestions c)
   unfolding readAnswer unless
   own-asked own e = by-refusal (text.refusal x) refl
@@ -73,26 +87,34 @@ first-own close = (_, refl)
 first-own finish = (_, refl)
 
 module _ (x : Text) (t : Table) (own : List ℕ) (read : accepted own ≡ readAnswer x) where
+  -- the first no to the call's own questions refuses it, and the table stays
+  pub own-refused :
+      (c : Call) (q : Question)
+      → firstNo (passes x t) (ownQuestions c) ≡ opt.some q
+      → (refused (numberOf q) (lineOf x q) ≡ answer c x t) × (t ≡ after c x t)
+  unfolding answer after answerUnless afterUnless
+  own-refused c q first-is = rw (own-asked c x t own read ∙ first-is) (refl, refl)
+
+  pub own-accepted :
+      (c : Call)
+      → firstNo (passes x t) (ownQuestions c) ≡ opt.none
+      → (accepted (told c (decode x) t) ≡ answer c x t) × (left c (decode x) t ≡ after c x t)
+  unfolding answer after answerUnless afterUnless
+  own-accepted c none-is = rw (own-asked c x t own read ∙ none-is) (refl, refl)
+
   -- no job's length: refused, the table stays
   pub size-refused :
       (c : Call) → (length t ≡ tableLength (decode x) → ⊥) → (refused 9 0 ≡ answer c x t) × (t ≡ after c x t)
-  unfolding answer after answerUnless afterUnless numberOf lineOf firstNo passes
+  unfolding numberOf lineOf firstNo passes
   size-refused c other =
       let (rest, listed) = first-own c in
-      let no : refusal c x t ≡ opt.some tableSize =
-      own-asked c x t own read ∙ rw listed (simp (ne-eqb (length t) (tableLength (decode x)) other))
-      in
-      rw no (refl, refl)
+      own-refused c tableSize (rw listed (simp (ne-eqb (length t) (tableLength (decode x)) other)))
 
   -- fresh asks nothing else
   pub fresh-accepted :
       length t ≡ tableLength (decode x) → (accepted [] ≡ answer fresh x t) × (freshTable t ≡ after fresh x t)
-  unfolding answer after answerUnless afterUnless told left ownQuestions firstNo passes
-  fresh-accepted same =
-      let all : refusal fresh x t ≡ opt.none =
-      own-asked fresh x t own read ∙ simp (eq-eqb (length t) (tableLength (decode x)) same)
-      in
-      rw all (refl, refl)
+  unfolding told left ownQuestions firstNo passes
+  fresh-accepted same = own-accepted fresh (simp (eq-eqb (length t) (tableLength (decode x)) same))
 
 -- the table's length, in the numbers that the reader gives
 pub length-read :

@@ -35,7 +35,7 @@ module _ (J : Job) (t : Table) where
       grown-both J u t (subst (λ (x : Table). Grown J u x) same (stepTable-grown J n u)) (stepsUpTo-grown J n t (omega arith)) in
       below-suc m n h (steps-idle n (omega arith) before m) (λ e. rw e (sym (ap (stepTable J n) before) ∙ same))
 
-  exchange-idle : exchange J t ≡ t → settled J t ≡ true
+  pub exchange-idle : exchange J t ≡ t → settled J t ≡ true
   unfolding exchange
   exchange-idle same =
       let u = stepsUpTo J (J .nodes) t in

@@ -139,6 +139,15 @@ product-small t h fits =
     let two : h .nodes * h .states ≤ 8 * 256 = mul-le-mul (fits .nodes-to) (fits .states-to) in
     (two, mul-le-mul two (fits .subformulas-to))
 
+-- The numbers of the job that a text describes are those of line 1, accepted or not.
+pub decode-length : (t : Text) → (decode t .nodes ≡ nodes t) × (size (decode t) ≡ states t) × (depth (decode t) ≡ subformulas t)
+unfolding size depth decode
+decode-length t = (
+  refl,
+  tab-length (label t) (states t),
+  tab-length (λ k. formula (parsed k (kind t k) (left t k) (right t k))) (subformulas t),
+)
+
 -- The numbers of the job that an accepted text describes.
 module _ (t : Text) (h : Header) (told : readTold (Accepted h) ≡ readAnswer t) where
   line-one : (states t ≡ h .states) × (edges t ≡ h .edges) × (subformulas t ≡ h .subformulas) × (nodes t ≡ h .nodes)
@@ -148,14 +157,10 @@ module _ (t : Text) (h : Header) (told : readTold (Accepted h) ≡ readAnswer t)
       (cc, cc, cc, cc)
 
   pub size-read : size (decode t) ≡ h .states
-  unfolding size decode
-  size-read = tab-length (label t) (states t) ∙ line-one .0
+  size-read = decode-length t .1 ∙ line-one .0
 
   pub depth-read : depth (decode t) ≡ h .subformulas
-  unfolding depth decode
-  depth-read =
-      tab-length (λ k. formula (parsed k (kind t k) (left t k) (right t k))) (subformulas t) ∙ line-one .2
+  depth-read = decode-length t .2 ∙ line-one .2
 
   pub nodes-read : decode t .nodes ≡ h .nodes
-  unfolding decode
-  nodes-read = line-one .3
+  nodes-read = decode-length t .0 ∙ line-one .3

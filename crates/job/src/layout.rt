@@ -57,7 +57,7 @@ fn are_in_ranges(states: usize, edges: usize, subformulas: usize, nodes: usize) 
 }
 
 // Questions 1 to 3, and the numbers of line 1.
-pub(crate) fn head(text: &[u8]) -> Reading
+pub fn head(text: &[u8]) -> Reading
     ensures { λ r. ⌜ readTold r ≡ headAnswer (now (text .entry)) ⌝ }
 {
     if text.len() < 21 {

@@ -1,13 +1,13 @@
 // The subformulas of an accepted text.
 ghost use mathlib.Core.Path.{_≡_};
-ghost use Prim.Native.Nat.{ℕ, _+_, _<_, _≤_};
-ghost use lib.ListN.{length, getD};
-ghost use Rattle.job.specs.Job.{depth, subformula, decode};
+ghost use Prim.Native.Nat.{_+_, _≤_};
+ghost use lib.ListN.{length};
+ghost use Rattle.job.specs.Job.{decode};
 ghost use Rattle.job.specs.Layout.{numberAt};
 ghost use Rattle.job.specs.Formula.{parsed, formula as formulaOf};
 ghost use Rattle.job.specs.Read.{readTold, readAnswer};
 ghost use Rattle.job.specs.declared.reader.Reading.the-variants.{Accepted};
-ghost use Rattle.job.specs.declared.subformula.Subformula.the-variants.{Atom};
+ghost use Rattle.machine.specs.Held.{Formula};
 use job::layout::number;
 use job::reader::Header;
 use job::subformula::Parsed;
@@ -35,8 +35,7 @@ fn subformula_at(text: &[u8], k: usize, at: usize) -> Subformula
 // The subformulas in order.
 pub fn formula(text: &[u8], h: Header) -> [Subformula; 32]
     requires { ⌜ readTold (Accepted h) ≡ readAnswer (now text) ⌝ }
-    ensures { λ r.
-        ⌜ ((k : ℕ) → k < depth (decode (now (text .entry))) → getD r k (Atom 0) ≡ subformula (decode (now (text .entry)) .formula) k) ⌝ }
+    ensures { λ r. ⌜ Formula (decode (now (text .entry))) r ⌝ }
 {
     let behind = 21 + 11 * (h.states + h.edges);
     let subformulas = h.subformulas;

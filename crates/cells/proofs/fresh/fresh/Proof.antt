@@ -2,14 +2,13 @@
 use Prim.Native.Nat.{_*_, _≤_}
 use mathlib.Core.Path.{_≡_, sym, ap, _∙_}
 use Rattle.job.specs.Layout.{Text}
-use Rattle.job.specs.Read.{readTold, refusalOf, readAnswer}
-use Rattle.job.specs.Answer.{refused}
+use Rattle.job.specs.Read.{readTold, readAnswer}
 use Rattle.job.specs.declared.reader.Header.{Header}
 use Rattle.job.specs.declared.reader.Reading.the-variants.{Accepted}
 use Rattle.job.proofs.ReadLaws.{read-fits, product-small}
 use Rattle.cells.specs.Calls.{Call}
 use Rattle.cells.specs.Told.{freshTold}
-use Rattle.cells.proofs.CallLaws.{text-refused, size-refused, fresh-accepted, length-read}
+use Rattle.cells.proofs.CallLaws.{reading-refused, size-refused, fresh-accepted, length-read}
 use native.Mathlib.Omega.{arith}
 use borrow.Author.Needs.{needs}
 use Rattle.cells.proofs.fresh.fresh.Statement.{statement}
@@ -28,16 +27,11 @@ refused-by-requires : tie.Need-refused-by-requires
 refused-by-requires c κs = search needs
 
 returns : tie.Need-returns
-unfolding freshTold readTold refusalOf
+unfolding freshTold
 returns c =
     let a = c .before .before .before .before .before .before .args in
-    let why = c .before .enum-told .given .0 .0 in
-    let is = c .before .enum-told .given .1 in
-    let same : c .refused-by .result ≡ why = c .refused-by .ensures ∙ ap refusalOf is in
-    let (told, stays) = text-refused Call.fresh (a .text .now) (a .table .now) (why .number) (why .line)
-    (sym (ap readTold is) ∙ c .before .before .before .read .ensures)
-    in
-    (ap (λ r. refused (r .number) (r .line)) same ∙ told, stays)
+    reading-refused Call.fresh (a .text .now) (a .table .now) _ _ _ (c .before .before .before .read .ensures) (c .before .enum-told .given .1)
+    (c .refused-by .ensures)
 
 -- the text, and line 1's numbers where the reader accepts
 abbrev text-of : tie.After-known-told → Text

@@ -70,7 +70,7 @@ returns c =
     let a = c .before .before .before .before in
     let l = c .before .loop in
     let d = depth-read (a .args .text .now) (a .args .h) (a .pre) in
-    λ k g. l .inv .2 k (omega arith)
+    record { long = l .inv .1; formula-at = λ k g. l .inv .2 k (omega arith) }
 
 pub formula-spec : {M : Type 1} → statement M
 formula-spec =
