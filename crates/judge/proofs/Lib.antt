@@ -1,0 +1,3 @@
+pub mod JudgeLaws
+pub mod ShownLaws
+pub mod Printed
