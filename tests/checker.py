@@ -21,7 +21,7 @@ import re
 import sys
 from dataclasses import dataclass
 from functools import lru_cache, wraps
-from typing import Callable, Iterable, NamedTuple
+from typing import Callable, Iterable, NamedTuple, Sequence
 
 ATOM, NOT, AND, AX, EX, AU, EU = range(1, 8)
 """The kinds of a subformula ("Job text")."""
@@ -259,7 +259,12 @@ def rule_of_next(kind: int, at_successors: list[int]) -> int:
 
 
 def rule_of_until(
-    job: Job, node: int, kind: int, own: list[int], a: list[int], b: list[int]
+    job: Job,
+    node: int,
+    kind: int,
+    own: Sequence[int],
+    a: Sequence[int],
+    b: Sequence[int],
 ) -> tuple[set[int], set[int]]:
     """The true and the false cells of an until ("A(a U b): ...").
 
@@ -307,10 +312,11 @@ def rule_of_until(
 def fill_rule(job: Job, table: bytearray, node: int, k: int) -> int:
     """The step of one node for one subformula; how many cells it filled."""
     kind, a, b = job.rules[k]
-    every = range(job.sizes.states)
 
-    def column(formula: int) -> list[int]:
-        return [table[job.cell(node, s, formula)] for s in every]
+    def column(formula: int) -> Sequence[int]:
+        """The node's cells of a subformula, one for each state."""
+        start, end = job.cell(node, 0, formula), job.cell(node + 1, 0, formula)
+        return table[start : end : job.sizes.formulas]
 
     value: dict[int, int] = {}
     if kind == ATOM:
@@ -404,8 +410,20 @@ def close_formula(job: Job, table: bytearray, k: int) -> int:
     )
 
 
+def plain_round(job: Job, table: bytearray) -> int:
+    """ "A round: ..." by the words; how many cells it filled."""
+    filled = sum(step_node(job, table, node) for node in range(job.sizes.nodes))
+    for node, s, k, value in copies(job, table, job.temporal()):
+        filled += fill(table, job.cell(node, s, k), value)
+    if filled == 0 and settled(job, table):
+        k = lowest_open(job, table)
+        if k is not None:
+            filled += close_formula(job, table, k)
+    return filled
+
+
 class Rounds:
-    """Rounds on one table.
+    """The same rounds on one table, without work that can fill nothing.
 
     A step fills what the rules allow at once, so a rule need not be worked
     again at a node until one of the node's cells that it reads is filled:
@@ -474,6 +492,20 @@ class Rounds:
         if filled == 0:
             filled += self.closing()
         return filled
+
+
+def do_rounds(job: Job, table: bytearray, one_round: Callable[[], int]) -> list[int]:
+    """ "Finish does rounds until one fills nothing": the owner's cell of state
+    0 and the whole formula, the rounds done and the cells filled."""
+    done, cells = 0, 0
+    while True:
+        filled = one_round()
+        done += 1
+        cells += filled
+        if filled == 0:
+            break
+    verdict = table[owners_cell(job, 0, job.sizes.formulas - 1)]
+    return [verdict, done, cells]
 
 
 # --------------------------------------------------------------------------
@@ -599,16 +631,8 @@ def finish(text: bytes, table: bytes) -> Answer:
     job = parse(text)
     ask_table(job, table)
     after = bytearray(table)
-    rounds = Rounds(job, after)
-    done, cells = 0, 0
-    while True:
-        filled = rounds.round()
-        done += 1
-        cells += filled
-        if filled == 0:
-            break
-    verdict = after[owners_cell(job, 0, job.sizes.formulas - 1)]
-    return [0, 0, verdict, done, cells], bytes(after)
+    numbers = do_rounds(job, after, Rounds(job, after).round)
+    return [0, 0, *numbers], bytes(after)
 
 
 # --------------------------------------------------------------------------

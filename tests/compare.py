@@ -27,8 +27,10 @@ import time
 from dataclasses import dataclass
 
 import checker
+import damaged
 import generate
 import mutants
+import tables
 
 QUESTIONS = {
     "fresh": [*range(1, 10)],
@@ -53,11 +55,11 @@ class Trial:
     note: str
     lie: bool = False  # planted: the last answer is told wrongly
 
-    def made(self) -> list[generate.Call]:
+    def made(self) -> list[tables.Call]:
         """What the model says of each call."""
         table, made = self.table, []
         for name, numbers in self.calls:
-            made.append(generate.make(name, self.text, table, numbers))
+            made.append(tables.make(name, self.text, table, numbers))
             table = made[-1].table
         if self.lie:
             made[-1].answer[-1] += 1
@@ -75,7 +77,7 @@ STATES, FORMULAS, NODES = 4, 5, 3
 def small(rng: random.Random) -> generate.Picture:
     """A job of few states, nodes, subformulas and edges."""
     if rng.randrange(3) == 0:
-        return knotted(rng)
+        return generate.tangled(rng, STATES, FORMULAS, NODES)
     states, formulas, nodes = (
         max(rng.randint(1, most), rng.randint(1, most))
         for most in (STATES, FORMULAS, NODES)
@@ -88,21 +90,6 @@ def small(rng: random.Random) -> generate.Picture:
     return job
 
 
-def knotted(rng: random.Random) -> generate.Picture:
-    """A ring over nodes where an until stays open: only close can fill it."""
-    states = rng.randint(2, STATES)
-    nodes = rng.randint(2, NODES)
-    edges = set(generate.ring(states))
-    for _ in range(rng.randrange(3)):
-        edges.add((rng.randrange(states), rng.randrange(states)))
-    owner = [s % nodes for s in range(states)]
-    rng.shuffle(owner)
-    label = [rng.choice([1, 1, 1, 1, 0, 2, 3]) for _ in range(states)]
-    rules = [(1, 0, 0), (1, 1, 0), (rng.choice([6, 7]), 0, 1)]
-    rules += generate.rules(rng, FORMULAS)[3 : rng.randint(3, FORMULAS)]
-    return generate.Picture(nodes, owner, label, sorted(edges), rules)
-
-
 def some_lines(rng: random.Random, job: generate.Picture) -> list[int]:
     """Line numbers, in and out of range."""
     count = len(job.lines())
@@ -111,19 +98,17 @@ def some_lines(rng: random.Random, job: generate.Picture) -> list[int]:
 
 def one_of_each(rng: random.Random, job: checker.Job) -> list[tuple[str, tuple[int, ...]]]:
     """Every call once."""
-    return [
-        (name, generate.any_numbers(rng, job, name)) for name in generate.NUMBERS
-    ]
+    return [(name, tables.any_numbers(rng, job, name)) for name in tables.NUMBERS]
 
 
 def damaged_trial(rng: random.Random) -> Trial:
     """A text that is refused, and every call with it."""
     job = small(rng)
     parsed = checker.parse(job.text())
-    found = [d for d in generate.damages(rng, job) if len(d.text) <= 500]
+    found = [d for d in damaged.damages(rng, job) if len(d.text) <= 500]
     number = rng.choice(sorted({d.number for d in found}))
     damage = rng.choice([d for d in found if d.number == number])
-    table = generate.good_table(rng, job.text())
+    table = tables.good_table(rng, job.text())
     return Trial(
         damage.text,
         table,
@@ -140,7 +125,7 @@ def damages_of_one(rng: random.Random) -> list[Trial]:
         if len(job.owner) >= 3 and len(job.rules) >= 4 and len(job.edges) >= 4:
             break
     parsed = checker.parse(job.text())
-    table = generate.fresh_table(parsed)
+    table = tables.fresh_table(parsed)
     return [
         Trial(
             damage.text,
@@ -149,7 +134,7 @@ def damages_of_one(rng: random.Random) -> list[Trial]:
             [damage.line, *some_lines(rng, job)],
             f"each damage: {damage.name}",
         )
-        for damage in generate.damages(rng, job)
+        for damage in damaged.damages(rng, job)
         if len(damage.text) <= 500
     ]
 
@@ -158,9 +143,9 @@ def flipped_trial(rng: random.Random) -> Trial:
     """A text with one bit turned over."""
     job = small(rng)
     parsed = checker.parse(job.text())
-    text = next(generate.flips(rng, job.text(), 1))
+    text = next(damaged.flips(rng, job.text(), 1))
     calls = one_of_each(rng, parsed)
-    table = generate.good_table(rng, job.text())
+    table = tables.good_table(rng, job.text())
     return Trial(text, table, calls, some_lines(rng, job), "one bit flipped")
 
 
@@ -169,7 +154,7 @@ def bad_table_trial(rng: random.Random) -> Trial:
     job = small(rng)
     text = job.text()
     parsed = checker.parse(text)
-    wrong = rng.choice([generate.wrong_length_table, generate.bad_table])
+    wrong = rng.choice([tables.wrong_length_table, tables.bad_table])
     calls = one_of_each(rng, parsed)
     rng.shuffle(calls)
     return Trial(text, wrong(rng, parsed), calls, some_lines(rng, job), wrong.__name__)
@@ -179,8 +164,8 @@ def calls_trial(rng: random.Random) -> Trial:
     """Any calls on any table that questions 9 and 10 let by."""
     job = small(rng)
     text = job.text()
-    table = generate.good_table(rng, text)
-    made = generate.any_calls(rng, text, table, rng.randint(2, 5))
+    table = tables.good_table(rng, text)
+    made = tables.any_calls(rng, text, table, rng.randint(2, 5))
     calls = [(one.name, one.numbers) for one in made]
     return Trial(text, table, calls, some_lines(rng, job), "any calls")
 
@@ -189,8 +174,8 @@ def legal_trial(rng: random.Random) -> Trial:
     """A list of calls as demand 3 has it, then finish."""
     job = small(rng)
     text = job.text()
-    table = generate.fresh_table(checker.parse(text))
-    made = generate.calls(rng, text, table, rng.randint(2, 6))
+    table = tables.fresh_table(checker.parse(text))
+    made = tables.calls(rng, text, table, rng.randint(2, 6))
     calls = [(one.name, one.numbers) for one in made]
     calls.append(("finish", ()))
     return Trial(text, table, calls, some_lines(rng, job), "legal list")
@@ -202,14 +187,7 @@ def settled_trial(rng: random.Random) -> Trial:
         job = small(rng)
         text = job.text()
         parsed = checker.parse(text)
-        table = generate.good_table(rng, text)
-        while not checker.settled(parsed, table):
-            for node in range(parsed.sizes.nodes):
-                table = checker.step(text, table, node)[1]
-            after = bytearray(table)
-            for n, s, k, value in checker.copies(parsed, table, parsed.temporal()):
-                after[parsed.cell(n, s, k)] = value
-            table = bytes(after)
+        table = tables.settled_table(text, tables.good_table(rng, text))
         if checker.lowest_open(parsed, table) is not None or rng.randrange(200) == 0:
             break
     step = ("step", (rng.randrange(parsed.sizes.nodes),))
@@ -220,10 +198,10 @@ def settled_trial(rng: random.Random) -> Trial:
 def gaps_trial(rng: random.Random) -> Trial:
     """A full table with few cells emptied, most at border states; then close:
     19 where the gap can be filled, else the gap is closed, 20 where none is."""
-    job = knotted(rng)
+    job = generate.tangled(rng, STATES, FORMULAS, NODES)
     text = job.text()
     parsed = checker.parse(text)
-    table = bytearray(checker.finish(text, generate.good_table(rng, text))[1])
+    table = bytearray(checker.finish(text, tables.good_table(rng, text))[1])
     for _ in range(rng.randrange(4)):
         node = rng.randrange(parsed.sizes.nodes)
         states = parsed.border[node] if rng.randrange(3) else parsed.owned[node]
@@ -238,9 +216,7 @@ def wild_step_trial(rng: random.Random) -> Trial:
     job = small(rng)
     text = job.text()
     parsed = checker.parse(text)
-    wild = rng.choice(
-        [generate.wild_table, generate.slanted_table, generate.open_table]
-    )
+    wild = rng.choice([tables.wild_table, tables.slanted_table, tables.open_table])
     nodes = list(range(parsed.sizes.nodes))
     rng.shuffle(nodes)
     calls = [("step", (node,)) for node in nodes]
@@ -264,7 +240,7 @@ def until_trial(rng: random.Random) -> Trial:
     owner = [0] * (states - 1) + [1]
     text = generate.Picture(2, owner, [0] * states, sorted(edges), rules).text()
     job = checker.parse(text)
-    table = bytearray(generate.fresh_table(job))
+    table = bytearray(tables.fresh_table(job))
     likely = {
         2: rng.choice([[0, 1, 2], [1, 1, 2], [0, 2, 2]]),
         3: rng.choice([[0, 1, 2], [0, 0, 0, 1, 2], [0, 0, 2]]),
@@ -301,7 +277,8 @@ def trials(rng: random.Random, count: int) -> list[Trial]:
         for one in trial.made():
             wanted[one.name, one.answer[0]] -= 1
 
-    drawn = damages_of_one(rng)[: count // 2]
+    drawn = damages_of_one(rng)
+    drawn = rng.sample(drawn, min(len(drawn), count // 2))
     drawn += mutants.telling(rng, until_trial, 6)[: count // 4]
     while len(drawn) < count * 9 // 10:
         drawn.append(rng.choice(KINDS_OF_TRIAL)(rng))

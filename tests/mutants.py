@@ -98,7 +98,7 @@ MUTANTS: list[tuple[str, str, str]] = [
     ("a round without copies", "        filled += self.copy()\n", ""),
     ("the last round not counted", "        done += 1\n", "        done += filled > 0\n"),
     ("verdict of the last state", "owners_cell(job, 0, job.sizes.formulas - 1)", "owners_cell(job, job.sizes.states - 1, job.sizes.formulas - 1)"),
-    ("verdict of node 0's cell", "after[owners_cell(job, 0, job.sizes.formulas - 1)]", "after[job.cell(0, 0, job.sizes.formulas - 1)]"),
+    ("verdict of node 0's cell", "table[owners_cell(job, 0, job.sizes.formulas - 1)]", "table[job.cell(0, 0, job.sizes.formulas - 1)]"),
     ("verdict of subformula 0", "owners_cell(job, 0, job.sizes.formulas - 1)", "owners_cell(job, 0, 0)"),
     ("255 not known to look", "ask(node < job.sizes.nodes or node == NO_NODE, 11)", "ask(node < job.sizes.nodes, 11)"),
     ("255 is the owner", "named = 0 if node == NO_NODE", "named = job.owner[state] if node == NO_NODE"),
