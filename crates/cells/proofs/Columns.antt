@@ -36,7 +36,7 @@ module _ (J : Job) where
       (J .structure .edges) noEdge
       (λ i l. ap (λ (b : Bool). eqb (edgeOf J i .from) s && b) (same (edgeOf J i .to) (inr (i, l, refl))))
 
-  next-same :
+  pub next-same :
       (n : ℕ) (q : Quantifier) (a b : ℕ → ℕ)
       → ((u : ℕ) → Read J u → a u ≡ b u)
       → (s : ℕ)

@@ -101,6 +101,12 @@ module _ (J : Job) (new : ℕ → ℕ → ℕ → ℕ) (t : Table) where
       → cell J (fill J new t) n s k ≡ new n s k
   fill-cell-new n s k b c e o = fill-cell n s k b c ∙ simp (is-empty (cell J t n s k) e, o)
 
+  pub fill-cell-left :
+      (n s k : ℕ) → s < size J → k < depth J → new n s k ≡ 2 → cell J (fill J new t) n s k ≡ cell J t n s k
+  unfolding cell
+  fill-cell-left n s k b c two =
+      fill-left (index J n s k) (rw (nodeOf-index J n s k b c, stateOf-index J n s k b c, subformulaOf-index J n s k c) two)
+
 -- Only the new values at empty cells of fragments matter.
 module _ (J : Job) (new other : ℕ → ℕ → ℕ → ℕ) (t : Table) where
   pub fill-same :

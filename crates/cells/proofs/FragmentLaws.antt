@@ -8,7 +8,7 @@ use mathlib.Core.Logic.{⊎-elim}
 use lib.ListN.{getD}
 use lib.Dec.{eqb, ltb}
 use borrow.Author.Tests.{ltb-true, lt-ltb, eqb-true, eq-eqb}
-use Rattle.law.proofs.Bool.{and-intro, and-left, and-right, or-left, or-right, or-cases, same-test, not-is-true}
+use Rattle.law.proofs.Bool.{and-intro, and-left, and-right, or-left, or-right, or-cases, and-no-right, same-test, not-is-true, not-is-false}
 use Rattle.law.specs.Lists.{some}
 use Rattle.law.proofs.Lists.{some-intro, some-elim}
 use Rattle.job.specs.Job.{Job, Edge, size, owner, edge}
@@ -95,3 +95,9 @@ module _ (J : Job) (job : IsJob J) where
   -- The owner of a state is a node, and owns it.
   pub owner-owns : (s : ℕ) → s < size J → owns J (owner J s) s ≡ true
   owner-owns s l = owns-intro J (owner J s) s l refl
+
+  -- and has it at no border.
+  pub owner-no-border : (s : ℕ) → s < size J → border J (owner J s) s ≡ false
+  owner-no-border s l =
+      border-owned (owner J s) s
+      ∙ and-no-right (inFragment J (owner J s) s) (not (owns J (owner J s) s)) (not-is-false (owns J (owner J s) s) (owner-owns s l))

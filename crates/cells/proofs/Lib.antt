@@ -10,8 +10,10 @@ pub mod Columns
 pub mod Local
 pub mod Repeat
 pub mod Idle
+pub mod Rest
 pub mod CallLaws
 pub mod FragmentLaws
+pub mod Tracked
 pub mod Tells
 pub mod RightSets
 pub mod RightColumn

@@ -77,7 +77,7 @@ module _
     (J : Job) (operands : (k : ℕ) → k < depth J → Operands k (subformula (J .formula) k))
     (ends : (e : ℕ) → e < edgeCount J → edgeOf J e .to < size J) (n : ℕ)
   where
-    read-lt : (s : ℕ) → Read J s → s < size J
+    pub read-lt : (s : ℕ) → Read J s → s < size J
     read-lt s = ⊎-elim (λ l. l) (λ (e, l, q). rw (← q) (ends e l))
 
     column-agrees : (t u : Table) → Agree J n t u → (k : ℕ) → k < depth J → columnOf J n k t ≡ columnOf J n k u

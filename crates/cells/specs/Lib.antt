@@ -3,6 +3,7 @@ pub mod Table
 pub mod SetRule
 pub mod Step
 pub mod Close
+pub mod Rest
 pub mod Finish
 pub mod Questions
 pub mod Calls

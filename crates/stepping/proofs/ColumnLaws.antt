@@ -18,13 +18,13 @@ use Rattle.job.specs.Job.{Job, dual, over, size, depth, atom}
 use Rattle.job.specs.Written.{Operands, label}
 use Rattle.job.specs.declared.subformula.Subformula.{Subformula}
 use Rattle.job.specs.declared.subformula.Subformula.the-variants.{Atom, Not, And}
-use Rattle.cells.specs.Table.{index, cell}
+use Rattle.cells.specs.Table.{Table, index, cell}
 use Rattle.cells.specs.SetRule.{bySets}
 use Rattle.cells.specs.Step.{opposite, both, next, untilRule, column}
 use Rattle.cells.proofs.Index.{index-lt}
 use Rattle.cells.proofs.Columns.{bySets-same}
 use Rattle.cells.proofs.Formed.{Formed, cell-low}
-use Rattle.cells.proofs.Right.{right-is, column-small}
+use Rattle.cells.proofs.Right.{right-is, column-small, is-right}
 use Rattle.machine.specs.Loops.{Filled}
 use Rattle.machine.specs.Decoded.{from, to, firstEdge}
 use Rattle.spread.specs.Spread.{quantifier, Lent}
@@ -111,6 +111,22 @@ module _ {states subformulas : ℕ} {labels first sources targets heads nexts pl
 
   pub node-formed : Formed J table
   node-formed = record { long = w .long; right = right-is J table (w .right) }
+
+  -- the same arrays with another table
+  abbrev pub node-at : (u : Table) → Formed J u → Node states subformulas labels first sources targets heads nexts places u n
+  node-at u formed =
+      record {
+        job = J;
+        is-job = w .is-job;
+        states-are = w .states-are;
+        subformulas-are = w .subformulas-are;
+        label-at = w .label-at;
+        by-edge = w .by-edge;
+        fragments = w .fragments;
+        long = formed .long;
+        right = is-right J u (formed .right);
+        node-in = w .node-in;
+      }
 
   pub cells-low :
       (k : ℕ) (r : List ℕ) → Filled 256 (λ s. getD table (byteOf states subformulas n s k) 0) states r

@@ -5,3 +5,5 @@ pub mod Runs
 pub mod ColumnLaws
 pub mod FillLaws
 pub mod StepLaws
+pub mod StaleLaws
+pub mod WorkedLaws

@@ -14,6 +14,7 @@ use Rattle.law.proofs.Bool.{clash}
 use Rattle.law.proofs.Bounded.{by-equal, any-no, any-found}
 use Rattle.law.proofs.Count.{count-le}
 use Rattle.job.specs.Job.{Job, size, depth}
+use Rattle.job.specs.Written.{IsJob}
 use Rattle.job.specs.declared.subformula.Subformula.{Subformula}
 use Rattle.job.specs.declared.subformula.Subformula.the-variants.{Atom}
 use Rattle.cells.specs.Fragment.{inFragment, inner, edgeOut}
@@ -26,14 +27,14 @@ use Rattle.cells.proofs.Counts.{filled-same, filled-sum, filled-none}
 use Rattle.cells.proofs.Local.{columnOf, stepColumn-cell, stepColumn-other, stepColumn-node}
 use Rattle.cells.proofs.Idle.{stepColumn-idle, idle-column, stepTable-idle, idle-columns}
 use Rattle.cells.proofs.Formed.{Formed, stepColumn-formed}
-use Rattle.cells.proofs.Right.{right-is, is-right}
+use Rattle.cells.proofs.Right.{right-is}
 use Rattle.machine.specs.Loops.{Filled}
 use Rattle.machine.specs.Held.{placeOf}
 use Rattle.machine.specs.declared.machine.Machine.{Machine}
 use Rattle.stepping.specs.Values.{byteOf, takes}
 use Rattle.stepping.specs.Task.{Ready, Node, Column, Valued, Filling, Stepped}
 use Rattle.stepping.proofs.FillLaws.{takes-all}
-use Rattle.stepping.proofs.ColumnLaws.{node-few, byte-is, cells-are}
+use Rattle.stepping.proofs.ColumnLaws.{node-few, node-at, byte-is, cells-are}
 
 -- a place that is not 0 is in the fragment
 fragment-digit : (a b : Bool) → not (eqb (cond {A = ℕ} (a && b) 2 (cond a 1 0)) 0) ≡ a
@@ -170,10 +171,43 @@ module _ {states subformulas : ℕ} {labels first sources targets heads nexts pl
           (sym (cells-are (w .node) k own read s inside) ∙ empty-is (getD own s 0) e) (sym (place-here s inside) ∙ o)))
           x
 
--- A node of a job, from one column to the next.
+-- No more cells are filled than a table has.
+module _ (J : Job) (job : IsJob J) (t : Table) (long : length t ≡ tableLength J) where
+  pub filled-small : (u : Table) → filled t u ≤ 65536
+  unfolding tableLength filled
+  filled-small u =
+      let two : J .nodes * size J ≤ 8 * 256 = mul-le-mul (job .nodes .below) (job .states .below) in
+      let three : J .nodes * size J * depth J ≤ 2048 * 32 = mul-le-mul two (job .subformulas .below) in
+      omega (arith, count-le (λ i. isEmpty (getD t i 0) && not (isEmpty (getD u i 0))) (length t))
+
+-- From one column to the next.
+module _ (J : Job) (n : ℕ) (t : Table) where
+  pub node-start : (t ≡ stepUpTo J n 0 t) × (0 ≡ filled t t)
+  unfolding stepUpTo
+  node-start = (refl, sym (filled-same t))
+
+  pub node-turn :
+      (k : ℕ) → k < depth J → (table : Table) (count : ℕ) → table ≡ stepUpTo J n k t → count ≡ filled t table
+      → (after : Table) (r : ℕ) → Stepped J n k table after r
+      → (after ≡ stepUpTo J n (k + 1) t) × (count + r ≡ filled t after)
+  unfolding stepUpTo
+  node-turn k l table count is counted after r (stepped, filling) =
+      let grown : Grown J t table = rw is (stepUpTo-grown J n 0 k t (omega arith) (omega arith)) in
+      let next : Grown J table after = rw stepped (stepColumn-grown J n k table) in
+      (stepped ∙ ap (stepColumn J n k) is ∙ ap (λ j. stepUpTo J n j t) (sym (add-one k)), omega (arith, filled-sum J t table grown after next))
+
+  pub node-over :
+      (k : ℕ) → k ≡ depth J → (table : Table) (count : ℕ) → table ≡ stepUpTo J n k t → count ≡ filled t table
+      → (table ≡ stepTable J n t) × (count ≡ filled t (stepTable J n t))
+  unfolding stepTable
+  node-over k e table count is counted =
+      let same : table ≡ stepUpTo J n (depth J) t = is ∙ ap (λ j. stepUpTo J n j t) e in
+      (same, counted ∙ ap (filled t) same)
+
+-- A node of a job.
 module _ {J : Job} {m : Machine} {formula : List Subformula} {places t : List ℕ} {n : ℕ} (ready : Ready J m formula places t n) where
-  abbrev arrays : (table : Table) → Formed J table → Node (m .states) (m .subformulas) (m .labels) (m .first) (m .sources) (m .targets) (m .heads) (m .nexts) places table n
-  arrays table formed =
+  abbrev pub ready-node : Node (m .states) (m .subformulas) (m .labels) (m .first) (m .sources) (m .targets) (m .heads) (m .nexts) places t n
+  ready-node =
       record {
         job = J;
         is-job = ready .held .job;
@@ -182,8 +216,8 @@ module _ {J : Job} {m : Machine} {formula : List Subformula} {places t : List �
         label-at = ready .held .decoded .label-at;
         by-edge = ready .held .decoded .by-edge;
         fragments = ready .held .fragments;
-        long = formed .long;
-        right = is-right J table (formed .right);
+        long = ready .long;
+        right = ready .right;
         node-in = ready .node-in;
       }
 
@@ -195,15 +229,18 @@ module _ {J : Job} {m : Machine} {formula : List Subformula} {places t : List �
   upTo-formed zero = start-formed
   upTo-formed (suc k) = stepColumn-formed J (stepUpTo J n k t) (upTo-formed k) n k
 
+  pub ready-in : (k : ℕ) → k < m .subformulas → k < depth J
+  ready-in k = subst (λ d. k < d) (ready .held .decoded .subformulas-are)
+
   abbrev pub ready-column :
       (k : ℕ) → k < m .subformulas → (table : Table) → Formed J table
       → Column (m .states) (m .subformulas) (m .labels) (m .first) (m .sources) (m .targets) (m .heads) (m .nexts) places table n k
       (getD formula k (Atom 0))
   ready-column k l table formed =
       record {
-        node = arrays table formed;
-        k-in = subst (λ d. k < d) (ready .held .decoded .subformulas-are) l;
-        f-is = ready .held .lines .formula-at k (subst (λ d. k < d) (ready .held .decoded .subformulas-are) l);
+        node = node-at ready-node table formed;
+        k-in = ready-in k l;
+        f-is = ready .held .lines .formula-at k (ready-in k l);
       }
 
   pub formed-at : (k : ℕ) (table : Table) → table ≡ stepUpTo J n k t → Formed J table
@@ -212,58 +249,19 @@ module _ {J : Job} {m : Machine} {formula : List Subformula} {places t : List �
   pub formed-first : Formed J t
   formed-first = start-formed
 
-  pub node-start : (t ≡ stepUpTo J n 0 t) × (0 ≡ filled t t)
-  unfolding stepUpTo
-  node-start = (refl, sym (filled-same t))
-
-  pub node-turn :
-      (k : ℕ) → k < m .subformulas → (table : Table) (count : ℕ) → table ≡ stepUpTo J n k t → count ≡ filled t table
-      → (after : Table) (r : ℕ) → Stepped J n k table after r
-      → (after ≡ stepUpTo J n (k + 1) t) × (count + r ≡ filled t after)
-  unfolding stepUpTo
-  node-turn k l table count is counted after r (stepped, filling) =
-      let few : k < depth J = subst (λ d. k < d) (ready .held .decoded .subformulas-are) l in
-      let grown : Grown J t table = rw is (stepUpTo-grown J n 0 k t (omega arith) (omega arith)) in
-      let next : Grown J table after = rw stepped (stepColumn-grown J n k table) in
-      (stepped ∙ ap (stepColumn J n k) is ∙ ap (λ j. stepUpTo J n j t) (sym (add-one k)), omega (arith, filled-sum J t table grown after next))
-
-  pub node-over :
-      (k : ℕ) → k ≡ m .subformulas → (table : Table) (count : ℕ) → table ≡ stepUpTo J n k t → count ≡ filled t table
-      → (table ≡ stepTable J n t) × (count ≡ filled t (stepTable J n t))
-  unfolding stepTable
-  node-over k e table count is counted =
-      let same : table ≡ stepUpTo J n (depth J) t = is ∙ ap (λ j. stepUpTo J n j t) (e ∙ ready .held .decoded .subformulas-are) in
-      (same, counted ∙ ap (filled t) same)
-
-  table-small : length t ≤ 65536
-  unfolding tableLength
-  table-small =
-      let a = ready .held .job in
-      let two : J .nodes * size J ≤ 8 * 256 = mul-le-mul (a .nodes .below) (a .states .below) in
-      let three : J .nodes * size J * depth J ≤ 2048 * 32 = mul-le-mul two (a .subformulas .below) in
-      let long = ready .long in
-      omega arith
-
   pub filled-few : (u : Table) → filled t u ≤ 65536
-  unfolding filled
-  filled-few u = let l = table-small in omega (arith, count-le (λ i. isEmpty (getD t i 0) && not (isEmpty (getD u i 0))) (length t))
+  filled-few = filled-small J (ready .held .job) t (ready .long)
 
   pub length-kept : (k : ℕ) (table : Table) → table ≡ stepUpTo J n k t → length table ≡ length t
   length-kept k table e = formed-at k table e .long ∙ sym (ready .long)
 
   pub stepped-few : (k : ℕ) (table after : Table) (r : ℕ) → table ≡ stepUpTo J n k t → r ≡ filled table after → r ≤ 65536
-  unfolding filled
   stepped-few k table after r is e =
-      let l = table-small in
-      omega (
-        arith,
-        length-kept k table is,
-        count-le (λ i. isEmpty (getD table i 0) && not (isEmpty (getD after i 0))) (length table),
-      )
+      omega (arith, filled-small J (ready .held .job) table (formed-at k table is .long) after)
 
   pub node-busy : (k : ℕ) → k < m .subformulas → (stepColumn J n k t ≡ t → ⊥) → false ≡ eqb (filled t (stepTable J n t)) 0
   node-busy k l busy =
-      let few : k < depth J = subst (λ d. k < d) (ready .held .decoded .subformulas-are) l in
+      let few = ready-in k l in
       sym
       (ne-eqb (filled t (stepTable J n t)) 0
       (λ e. busy (idle-columns J n t (filled-none J t (stepTable J n t) (stepTable-grown J n t) e) k few)))

@@ -1,3 +1,4 @@
 pub mod Values
 pub mod Sets
 pub mod Task
+pub mod Stale

@@ -3,4 +3,5 @@ pub mod column;
 pub mod filling;
 pub mod local;
 pub mod sets;
+pub mod stale;
 pub mod step;

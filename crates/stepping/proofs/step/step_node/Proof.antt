@@ -5,7 +5,7 @@ use Rattle.job.specs.Job.{Job}
 use Rattle.cells.specs.Table.{filled}
 use Rattle.cells.specs.Step.{stepUpTo}
 use Rattle.stepping.specs.Task.{Ready}
-use Rattle.stepping.proofs.StepLaws.{ready-few, ready-column, formed-at, node-start, node-turn, node-over, filled-few, stepped-few, length-kept}
+use Rattle.stepping.proofs.StepLaws.{ready-few, ready-in, ready-column, formed-at, node-start, node-turn, node-over, filled-few, stepped-few, length-kept}
 use borrow.Author.Needs.{needs}
 use native.Mathlib.Omega.{arith}
 use Rattle.stepping.proofs.step.step_node.Statement.{statement}
@@ -18,7 +18,7 @@ abbrev μ-loop : tie.MeasureT-loop
 μ-loop places table₀ n m formula subformulas count₀ k₀ table count k = subformulas - k
 
 loop-holds : tie.Need-loop-holds Inv-loop μ-loop
-loop-holds c = (search needs, λ J ready. node-start ready)
+loop-holds c = (search needs, λ J ready. node-start J _ _)
 
 mul-f : tie.Need-mul-f Inv-loop μ-loop
 mul-f c = let few = ready-few (c .before .before .before .pre .1) in omega arith
@@ -53,7 +53,7 @@ loop-again c =
       search needs,
       λ J ready.
           let (is, counted) = l .inv .1 J ready in
-          node-turn ready (l .k) h (l .table) (l .count) is counted _ (c .before .before .step-column .result)
+          node-turn J _ _ (l .k) (ready-in ready (l .k) h) (l .table) (l .count) is counted _ (c .before .before .step-column .result)
           (c .before .before .step-column .ensures (ready-column ready (l .k) h (l .table) (formed-at ready (l .k) (l .table) is))),
     )
 
@@ -61,7 +61,7 @@ same-length : tie.Need-same-length Inv-loop μ-loop
 same-length c = let (J, ready) = c .before .before .before .pre in length-kept ready (c .before .loop .k) (c .before .loop .table) (c .before .loop .inv .1 J ready .0)
 
 returns : tie.Need-returns Inv-loop μ-loop
-returns c = λ J ready. let l = c .before .loop in let (is, counted) = l .inv .1 J ready in node-over ready (l .k) (omega arith) (l .table) (l .count) is counted
+returns c = λ J ready. let l = c .before .loop in let (is, counted) = l .inv .1 J ready in node-over J _ _ (l .k) (omega (arith, ready .held .decoded .subformulas-are)) (l .table) (l .count) is counted
 
 pub step-node-spec : {M : Type 1} → statement M
 step-node-spec =
