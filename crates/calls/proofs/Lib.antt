@@ -4,3 +4,4 @@ pub mod ReadyLaws
 pub mod AcceptLaws
 pub mod CloseLaws
 pub mod FinishLaws
+pub mod MarkedLaws

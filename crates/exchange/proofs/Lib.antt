@@ -3,3 +3,4 @@ pub mod PartLaws
 pub mod PutLaws
 pub mod Checks
 pub mod FromHeld
+pub mod NewsLaws

@@ -14,11 +14,11 @@ use Rattle.law.proofs.Count.{count-le}
 use Rattle.job.specs.Job.{Job, size, depth, owner}
 use Rattle.job.specs.Written.{IsJob}
 use Rattle.cells.specs.Fragment.{inFragment, border}
-use Rattle.cells.specs.Table.{Table, tableLength, index, nodeOf, stateOf, subformulaOf, cell, ownerCell, isEmpty, inside, fill, filled}
+use Rattle.cells.specs.Table.{Table, tableLength, nodeOf, stateOf, subformulaOf, cell, ownerCell, isEmpty, inside, fill, filled}
 use Rattle.cells.specs.Close.{isTemporal, acceptTable, copyTable, smallestOpen, closeTable}
-use Rattle.cells.proofs.Index.{nodeOf-lt, stateOf-lt, subformulaOf-lt, nodeOf-index, stateOf-index, subformulaOf-index}
-use Rattle.cells.proofs.Fill.{is-empty, not-empty, fill-length, fill-filled, fill-outside, fill-new, fill-left, fill-same-cells, fill-none}
-use Rattle.cells.proofs.FragmentLaws.{border-owned, owner-owns}
+use Rattle.cells.proofs.Index.{nodeOf-lt, stateOf-lt, subformulaOf-lt}
+use Rattle.cells.proofs.Fill.{is-empty, not-empty, fill-length, fill-filled, fill-outside, fill-new, fill-cell-left, fill-same-cells, fill-idle-cells}
+use Rattle.cells.proofs.FragmentLaws.{owner-no-border}
 use Rattle.cells.proofs.Grown.{fill-grown}
 use Rattle.cells.proofs.Counts.{filled-sum, filled-same}
 use Rattle.exchange.specs.Lent.{Sized, Framed, Lent, Cell}
@@ -66,14 +66,23 @@ module _ (J : Job) (t : Table) (long : length t ≡ tableLength J) where
   part-same keep other new values same =
       fill-same-cells J _ _ t long (λ n s k a b c e o. same n s k (record { node-in = a; state-in = b; subformula-in = c }))
 
-  -- Nothing is filled where nothing is kept.
-  pub leaves-none : (keep : Cells) (new : Values) → ((m u j : ℕ) → Cell J m u j → inFragment J m u ≡ true → cond (keep m u j) (new m u j) 2 ≡ 2) → Leaves t (part J keep new t) t 0
+  -- Nothing is filled where no empty cell has a value.
+  pub leaves-idle :
+      (keep : Cells) (new : Values)
+      → ((m u j : ℕ) → Cell J m u j → cell J t m u j ≡ 2 → inFragment J m u ≡ true → cond (keep m u j) (new m u j) 2 ≡ 2)
+      → Leaves t (part J keep new t) t 0
   unfolding part
-  leaves-none keep new none =
+  leaves-idle keep new none =
       let same : part J keep new t ≡ t =
-      fill-same-cells J (λ m u j. cond (keep m u j) (new m u j) 2) (λ m u j. 2) t long (λ n s k a b c e o. none n s k (record { node-in = a; state-in = b; subformula-in = c }) o)
-      ∙ fill-none J t in
+      fill-idle-cells J (λ m u j. cond (keep m u j) (new m u j) 2) t long
+      (λ n s k a b c. none n s k (record { node-in = a; state-in = b; subformula-in = c })) in
       record { table-is = sym same; told-is = sym (filled-same t) ∙ ap (filled t) (sym same) }
+
+  pub leaves-none :
+      (keep : Cells) (new : Values)
+      → ((m u j : ℕ) → Cell J m u j → inFragment J m u ≡ true → cond (keep m u j) (new m u j) 2 ≡ 2)
+      → Leaves t (part J keep new t) t 0
+  leaves-none keep new none = leaves-idle keep new (λ m u j h e. none m u j h)
 
   pub leaves-same :
       (keep other : Cells) (new values : Values) (after : Table) (told : ℕ)
@@ -145,17 +154,10 @@ told-small J states subformulas t wanted after c a l =
 
 -- Copying never changes what it reads: no border state of a node is its own.
 module _ (J : Job) (job : IsJob J) (t : Table) where
-  owner-no-border : (s : ℕ) → s < size J → border J (owner J s) s ≡ false
-  owner-no-border s l =
-      border-owned J job (owner J s) s ∙ simp (owner-owns J job s l) (and-last (inFragment J (owner J s) s))
-
   copy-owner : (keep : Cells) (s k : ℕ) → s < size J → k < depth J → ownerCell J (part J keep (copyNew J t) t) s k ≡ ownerCell J t s k
-  unfolding part copyNew ownerCell cell
+  unfolding part copyNew ownerCell
   copy-owner keep s k b c =
-      let n = owner J s in
-      fill-left J _ t (index J n s k)
-      (rw (nodeOf-index J n s k b c, stateOf-index J n s k b c, subformulaOf-index J n s k c)
-      (simp (owner-no-border s b) (both-two (keep n s k))))
+      fill-cell-left J _ t (owner J s) s k b c (simp (owner-no-border J job s b) (both-two (keep (owner J s) s k)))
 
   module _ (long : length t ≡ tableLength J) (first second both : Cells)
       (joined : (m u j : ℕ) → Cell J m u j → both m u j ≡ (first m u j || second m u j)) where
@@ -224,16 +226,13 @@ module _ (J : Job) (t : Table) (n s k : ℕ) where
 unfoldable pub uptoState : ℕ → ℕ → ℕ → Cells
 uptoState n k i m u j = eqb m n && eqb j k && ltb u i
 
-unfoldable pub uptoSub : ℕ → ℕ → Cells
-uptoSub n i m u j = eqb m n && ltb j i
-
 unfoldable pub uptoNode : ℕ → Cells
 uptoNode i m u j = ltb m i
 
-ltb-zero : (u : ℕ) → ltb u 0 ≡ false
+pub ltb-zero : (u : ℕ) → ltb u 0 ≡ false
 ltb-zero u = le-ltb u 0 (omega arith)
 
-ltb-more : (u i : ℕ) → ltb u (i + 1) ≡ (ltb u i || eqb u i)
+pub ltb-more : (u i : ℕ) → ltb u (i + 1) ≡ (ltb u i || eqb u i)
 ltb-more u i =
     by-order u i
     (λ l. simp (lt-ltb u (i + 1) (omega arith), lt-ltb u i l))
@@ -256,10 +255,6 @@ pub state-none : (n k m u j : ℕ) → uptoState n k 0 m u j ≡ false
 unfolding uptoState
 state-none n k m u j = rw (ltb-zero u) (and-none (eqb m n) (eqb j k))
 
-pub sub-none : (n m u j : ℕ) → uptoSub n 0 m u j ≡ false
-unfolding uptoSub
-sub-none n m u j = rw (ltb-zero j) (and-last (eqb m n))
-
 pub node-none : (m u j : ℕ) → uptoNode 0 m u j ≡ false
 unfolding uptoNode
 node-none m u j = ltb-zero m
@@ -276,14 +271,6 @@ state-more n k i m u j = rw (ltb-more u i) (cases (eqb m n) (eqb j k) (ltb u i) 
     cases true false x false = refl
     cases false b x y = refl
 
-pub sub-more : (n i m u j : ℕ) → uptoSub n (i + 1) m u j ≡ (uptoSub n i m u j || column n i m u j)
-unfolding uptoSub column
-sub-more n i m u j = rw (ltb-more j i) (cases (eqb m n) (ltb j i) (eqb j i))
-  where
-    cases : (a x y : Bool) → (a && (x || y)) ≡ ((a && x) || (a && y))
-    cases true x y = refl
-    cases false x y = refl
-
 pub node-more : (i m u j : ℕ) → uptoNode (i + 1) m u j ≡ (uptoNode i m u j || node i m u j)
 unfolding uptoNode node
 node-more i m u j = ltb-more m i
@@ -291,14 +278,6 @@ node-more i m u j = ltb-more m i
 pub state-done : (n k i m u j : ℕ) → u < i → uptoState n k i m u j ≡ column n k m u j
 unfolding uptoState column
 state-done n k i m u j l = simp (lt-ltb u i l) (and-yes (eqb m n) (eqb j k))
-
-pub sub-done : (n i m u j : ℕ) → j < i → uptoSub n i m u j ≡ node n m u j
-unfolding uptoSub node
-sub-done n i m u j l = simp (lt-ltb j i l) (and-one (eqb m n))
-  where
-    and-one : (a : Bool) → (a && true) ≡ a
-    and-one true = refl
-    and-one false = refl
 
 pub node-done : (i m u j : ℕ) → m < i → uptoNode i m u j ≡ true
 unfolding uptoNode
@@ -337,33 +316,23 @@ module _ (J : Job) (t : Table) (states subformulas : ℕ) (a : Sized J states su
       let b : u < i = omega (arith, h .state-in, a .numbers .states-are) in
       rw (state-done n k i m u j b))
 
-  pub node-copied :
-      (new : Values) (n i : ℕ) (after : Table) (told : ℕ)
-      → subformulas ≤ i
-      → Leaves t (part J (uptoSub n i) new t) after told
-      → Leaves t (part J (node n) new t) after told
-  node-copied new n i after told l =
-      leaves-same J t (a .long) (uptoSub n i) (node n) new new after told
-      (λ m u j h.
-      let b : j < i = omega (arith, h .subformula-in, a .numbers .subformulas-are) in
-      rw (sub-done n i m u j b))
-
-  part-all : (i : ℕ) (new : Values) → J .nodes ≤ i → part J (uptoNode i) new t ≡ fill J new t
+  part-all : (keep : Cells) (new : Values) → ((m u j : ℕ) → Cell J m u j → keep m u j ≡ true) → part J keep new t ≡ fill J new t
   unfolding part
-  part-all i new l =
-      fill-same-cells J (λ m s k. cond (uptoNode i m s k) (new m s k) 2) new t (a .long)
-      (λ n s k b c d e o. cond-true (uptoNode i n s k) (new n s k) 2 (node-done i n s k (omega arith)))
+  part-all keep new every =
+      fill-same-cells J (λ m s k. cond (keep m s k) (new m s k) 2) new t (a .long)
+      (λ n s k b c d e o.
+      cond-true (keep n s k) (new n s k) 2 (every n s k (record { node-in = b; state-in = c; subformula-in = d })))
 
   leaves-is : (wanted other after : Table) (told : ℕ) → wanted ≡ other → Leaves t wanted after told → Leaves t other after told
   leaves-is wanted other after told e l = record { table-is = l .table-is ∙ e; told-is = l .told-is ∙ ap (filled t) e }
 
   pub all-copied :
-      (i : ℕ) (after : Table) (told : ℕ)
-      → J .nodes ≤ i
-      → Leaves t (part J (uptoNode i) (copyNew J t) t) after told
+      (keep : Cells) (after : Table) (told : ℕ)
+      → ((m u j : ℕ) → Cell J m u j → keep m u j ≡ true)
+      → Leaves t (part J keep (copyNew J t) t) after told
       → Leaves t (copyTable J t) after told
   unfolding copyTable copyNew
-  all-copied i after told l = leaves-is _ (copyTable J t) after told (part-all i (copyNew J t) l)
+  all-copied keep after told every = leaves-is _ (copyTable J t) after told (part-all keep (copyNew J t) every)
 
   pub all-closed :
       (k i : ℕ) (after : Table) (told : ℕ)
@@ -373,15 +342,13 @@ module _ (J : Job) (t : Table) (states subformulas : ℕ) (a : Sized J states su
       → Leaves t (closeTable J t) after told
   unfolding closeTable closeNew
   all-closed k i after told l e =
-      leaves-is _ (closeTable J t) after told (part-all i (closeNew k) l ∙ ap (λ j. fill J (closeNew j) t) e)
+      leaves-is _ (closeTable J t) after told
+      (part-all (uptoNode i) (closeNew k) (λ m u j h. node-done i m u j (omega (arith, h .node-in))) ∙ ap (λ j. fill J (closeNew j) t) e)
 
 -- Where they begin.
 module _ (J : Job) (t : Table) (long : length t ≡ tableLength J) (new : Values) where
   pub states-none : (n k : ℕ) → Leaves t (part J (uptoState n k 0) new t) t 0
   states-none n k = leaves-none J t long (uptoState n k 0) new (λ m u j h i. cond-false (uptoState n k 0 m u j) (new m u j) 2 (state-none n k m u j))
-
-  pub subs-none : (n : ℕ) → Leaves t (part J (uptoSub n 0) new t) t 0
-  subs-none n = leaves-none J t long (uptoSub n 0) new (λ m u j h i. cond-false (uptoSub n 0 m u j) (new m u j) 2 (sub-none n m u j))
 
   pub nodes-none : Leaves t (part J (uptoNode 0) new t) t 0
   nodes-none = leaves-none J t long (uptoNode 0) new (λ m u j h i. cond-false (uptoNode 0 m u j) (new m u j) 2 (node-none m u j))

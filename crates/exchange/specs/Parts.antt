@@ -28,7 +28,7 @@ Values = ℕ → ℕ → ℕ → ℕ
 unfoldable pub part : Job → Cells → Values → Table → Table
 part J keep new t = fill J (λ m s k. cond (keep m s k) (new m s k) 2) t
 
--- One cell; the cells of one node and one subformula; the cells of one node.
+-- One cell; the cells of one node and one subformula; the cells of one node; those of one subformula.
 unfoldable pub only : ℕ → ℕ → ℕ → Cells
 only n s k m u j = eqb m n && eqb u s && eqb j k
 
@@ -37,6 +37,9 @@ column n k m u j = eqb m n && eqb j k
 
 unfoldable pub node : ℕ → Cells
 node n m u j = eqb m n
+
+unfoldable pub subformula : ℕ → Cells
+subformula k m u j = eqb j k
 
 -- What copying fills in, and what closing subformula k does.
 unfoldable pub copyNew : Job → Table → Values

@@ -5,8 +5,7 @@ ghost use Prim.Native.Nat.{_<_};
 ghost use lib.ListN.{length};
 ghost use Rattle.job.specs.Job.{Job, depth, subformula};
 ghost use Rattle.cells.specs.Fragment.{inFragment};
-ghost use Rattle.cells.specs.Close.{isTemporal, acceptTable, copyTable, smallestOpen, closeTable};
-ghost use Rattle.machine.specs.Held.{Formula};
+ghost use Rattle.cells.specs.Close.{isTemporal, acceptTable, smallestOpen, closeTable};
 ghost use Rattle.exchange.specs.Lent.{Sized, Framed, Lent, Cell};
 ghost use Rattle.exchange.specs.Parts.{Leaves, Put, part, only, column, node, copyNew, closeNew};
 use crate::cell::cell_at;
@@ -69,7 +68,7 @@ fn copy_cell(
 }
 
 // The cells of subformula k, whose line is f, at node n.
-fn copy_column(
+pub fn copy_column(
     table: &mut [u8],
     states: usize,
     subformulas: usize,
@@ -88,47 +87,6 @@ fn copy_column(
     let mut filled = 0;
     for s in 0..states {
         filled += copy_cell(table, states, subformulas, owners, places, n, s, k);
-    }
-    filled
-}
-
-// The cells of node n.
-fn copy_node(
-    table: &mut [u8],
-    states: usize,
-    subformulas: usize,
-    formula: [Subformula; 32],
-    owners: &[u8; 256],
-    places: &[u8; 2048],
-    n: usize,
-) -> usize
-    requires { ⌜ ((J : Job) × Lent J states subformulas (now owners) (now places) (now table) × Formula J formula × (n < J .nodes)) ⌝ }
-    ensures { λ r. ⌜ ((J : Job) → Lent J states subformulas (now (owners .entry)) (now (places .entry)) (now (table .entry)) → Formula J formula → n < J .nodes → Leaves (now (table .entry)) (part J (node n) (copyNew J (now (table .entry))) (now (table .entry))) (now (table .exit)) r) ⌝ }
-{
-    let mut filled = 0;
-    for k in 0..subformulas {
-        let f = formula[k];
-        filled += copy_column(table, states, subformulas, f, owners, places, n, k);
-    }
-    filled
-}
-
-// Copies every owner's filled temporal cell into the empty cells for it at border states. Returns how many cells are filled.
-pub fn copy(
-    table: &mut [u8],
-    nodes: usize,
-    states: usize,
-    subformulas: usize,
-    formula: [Subformula; 32],
-    owners: &[u8; 256],
-    places: &[u8; 2048],
-) -> usize
-    requires { ⌜ ((J : Job) × Lent J states subformulas (now owners) (now places) (now table) × Formula J formula × (nodes ≡ J .nodes)) ⌝ }
-    ensures { λ r. ⌜ ((J : Job) → Lent J states subformulas (now (owners .entry)) (now (places .entry)) (now (table .entry)) → Formula J formula → nodes ≡ J .nodes → Leaves (now (table .entry)) (copyTable J (now (table .entry))) (now (table .exit)) r) ⌝ }
-{
-    let mut filled = 0;
-    for n in 0..nodes {
-        filled += copy_node(table, states, subformulas, formula, owners, places, n);
     }
     filled
 }

@@ -2,5 +2,6 @@
 // All of it reads the arrays of a decoded job and is linear in the table.
 pub mod cell;
 pub mod fill;
+pub mod news;
 pub mod right;
 pub mod settled;
