@@ -1,6 +1,6 @@
 -- Columns, the cells of one node and one subformula, that a step or a copying may leave out because it would fill nothing there.
 -- `stale` has a mark, a byte that is not 0, for each column of which a cell was filled since its node was last stepped, and
--- `news` for each subformula of which a cell was filled since the last copying. Assumes nothing.
+-- `news` for each subformula of which a cell was filled since the last copying. No call's contract cites these. Assumes nothing.
 use Prim.Native.Nat.{ℕ, _+_, _*_, _<_}
 use mathlib.Core.Path.{_≡_}
 use mathlib.Core.Bool.{Bool, true, false, not}
