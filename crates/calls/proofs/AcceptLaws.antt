@@ -13,7 +13,7 @@ use Rattle.job.specs.Answer.{accepted, refused}
 use Rattle.job.specs.Job.{decode}
 use Rattle.cells.specs.Table.{Table, index, cell, isEmpty}
 use Rattle.cells.specs.Questions.{Question, truthValue, border, agrees, numberOf, lineOf, passes}
-use Rattle.cells.specs.Calls.{Call, told, left, ownQuestions, answer, after}
+use Rattle.cells.specs.Calls.{Call, told, left, ownQuestions, width, answer, after}
 use Rattle.cells.proofs.CallLaws.{own-refused, own-accepted}
 use Rattle.machine.specs.Held.{placeOf}
 use Rattle.machine.specs.declared.machine.Machine.{Machine}
@@ -28,7 +28,7 @@ pub record Asked (x : Text) (m : Machine) (places : List ℕ) (t : Table) (c : C
 module _ (x : Text) (m : Machine) (places : List ℕ) (t : Table) (c : Call) (i : ℕ) (a : Asked x m places t c i) where
   -- the next question
   module _ (q : Question) (rest : List Question) (listed : drop i (ownQuestions c) ≡ q ∷ rest) where
-    pub asked-no : passes x t q ≡ false → (refused (numberOf q) (lineOf x q) ≡ answer c x t) × (t ≡ after c x t)
+    pub asked-no : passes x t q ≡ false → (refused (numberOf q) (lineOf x q) (width c) ≡ answer c x t) × (t ≡ after c x t)
     unfolding firstNo
     asked-no is-no = own-refused x t (a .opened .header) (a .opened .read) c q (a .passed ∙ rw listed (simp is-no))
 

@@ -1,5 +1,4 @@
--- A round and finish, from what their parts leave; and finish round by round, whatever the fuel, so that a loop of rounds ends
--- where the definition does. Assumes nothing.
+-- A round and finish, from what their parts leave, so that a loop of rounds ends where the definition does. Assumes nothing.
 use Prim.Native.Nat.{ℕ, zero, suc, _+_, _-_, _<_, _≤_}
 use mathlib.Core.Path.{_≡_, refl, sym, _∙_, ap, ap₂, subst}
 use mathlib.Core.Bool.{true, not, _&&_}
@@ -18,12 +17,13 @@ use Rattle.job.specs.declared.subformula.Subformula.{Subformula}
 use Rattle.cells.specs.Table.{Table, ownerCell, isEmpty, inside, filled, emptyCells}
 use Rattle.cells.specs.Step.{stepTable}
 use Rattle.cells.specs.Close.{copyTable, settled, smallestOpen, someOpen, closeTable}
-use Rattle.cells.specs.Finish.{Finished, stepsUpTo, exchange, closing, round, roundsFrom, finish, verdict}
+use Rattle.cells.specs.Finish.{stepsUpTo, exchange, closing, round, roundThen, finish, verdict}
 use Rattle.cells.specs.Calls.{Call, told}
 use Rattle.cells.proofs.Grown.{Grown, stepTable-grown, stepsUpTo-grown, copyTable-grown, exchange-grown, round-grown}
 use Rattle.cells.proofs.Counts.{filled-same, filled-sum, filled-none, filled-empties}
 use Rattle.cells.proofs.Formed.{Formed, stepTable-formed, copyTable-formed, round-formed, finish-formed}
-use Rattle.cells.proofs.Rounds.{exchange-idle, finish-rounds, finish-cells}
+use Rattle.cells.proofs.Rounds.{exchange-idle}
+use Rattle.cells.proofs.Finish.{finish-rounds, finish-cells, finish-last, finish-more, finish-some}
 use Rattle.machine.specs.declared.machine.Machine.{Machine}
 use Rattle.stepping.specs.Task as stepping
 use Rattle.exchange.specs.Parts.{Leaves}
@@ -152,65 +152,6 @@ module _ {J : Job} {m : Machine} {lines : List Subformula} {places t : List ℕ}
       formed-ready ready u
       (rw (left .table-is) (copyTable-formed J stepped (steps-formed J t (J .nodes) (ready-formed ready))))
 
--- A round that fills c cells, and what comes later.
-abbrev round-then : ℕ → Finished → Finished
-round-then c later = record { table = later .table; rounds = suc (later .rounds); cells = c + later .cells }
-
--- Finish, one round at a time. Each round but the last lowers the empty cells, so any fuel that is no less gives the same rounds.
-module _ (J : Job) where
-  last-from : (n : ℕ) (t : Table) → filled t (round J t) ≡ 0 → roundsFrom J n t ≡ record { table = round J t; rounds = 1; cells = 0 }
-  unfolding roundsFrom
-  last-from zero t none = ap (λ c. record { table = round J t; rounds = 1; cells = c }) none
-  last-from (suc n) t none = cond-true (eqb (filled t (round J t)) 0) _ _ (eq-eqb (filled t (round J t)) 0 none)
-
-  more-from :
-      (n : ℕ) (t : Table)
-      → (filled t (round J t) ≡ 0 → ⊥)
-      → roundsFrom J (suc n) t ≡ round-then (filled t (round J t)) (roundsFrom J n (round J t))
-  unfolding roundsFrom
-  more-from n t some = cond-false (eqb (filled t (round J t)) 0) _ _ (ne-eqb (filled t (round J t)) 0 some)
-
-  none-empty : (t : Table) → emptyCells J t ≤ 0 → filled t (round J t) ≡ 0
-  none-empty t few = omega (arith, filled-empties J t (round J t) (round-grown J t))
-
-  same-last : (n k : ℕ) (t : Table) → filled t (round J t) ≡ 0 → roundsFrom J n t ≡ roundsFrom J k t
-  same-last n k t none = last-from n t none ∙ sym (last-from k t none)
-
-  fuel-enough : (n k : ℕ) (t : Table) → emptyCells J t ≤ n → emptyCells J t ≤ k → roundsFrom J n t ≡ roundsFrom J k t
-  fuel-enough zero k t a b = same-last zero k t (none-empty t a)
-  fuel-enough (suc n) zero t a b = same-last (suc n) zero t (none-empty t b)
-  fuel-enough (suc n) (suc k) t a b =
-      let u = round J t in
-      by-equal (filled t u) 0
-      (same-last (suc n) (suc k) t)
-      (λ some.
-      let fewer = filled-empties J t u (round-grown J t) in
-      more-from n t some ∙ ap (round-then (filled t u)) (fuel-enough n k u (omega arith) (omega arith)) ∙ sym (more-from k t some))
-
-  finish-last : (t : Table) → filled t (round J t) ≡ 0 → finish J t ≡ record { table = round J t; rounds = 1; cells = 0 }
-  unfolding finish
-  finish-last t = last-from (emptyCells J t) t
-
-  finish-more : (t : Table) → (filled t (round J t) ≡ 0 → ⊥) → finish J t ≡ round-then (filled t (round J t)) (finish J (round J t))
-  unfolding finish
-  finish-more t some = by-fuel (emptyCells J t) refl
-    where
-      by-fuel :
-          (n : ℕ)
-          → emptyCells J t ≡ n
-          → roundsFrom J n t ≡ round-then (filled t (round J t)) (roundsFrom J (emptyCells J (round J t)) (round J t))
-      by-fuel zero none = absurd (some (none-empty t (omega arith)))
-      by-fuel (suc n) e =
-          let u = round J t in
-          let fewer = filled-empties J t u (round-grown J t) in
-          more-from n t some ∙ ap (round-then (filled t u)) (fuel-enough n (emptyCells J u) u (omega arith) (le-refl (emptyCells J u)))
-
-  finish-some : (t : Table) → 0 < finish J t .rounds
-  finish-some t =
-      by-equal (filled t (round J t)) 0
-      (λ none. rw (finish-last t none) (omega arith))
-      (λ some. rw (finish-more t some) (omega arith))
-
 -- Rounds on t, so many and with so many cells filled, came to u: what finish does to t is these and what it does to u.
 pub record Came (J : Job) (t u : Table) (rounds cells : ℕ) : Type 0 where
   pub formed : Formed J u
@@ -252,8 +193,8 @@ module _ (J : Job) (t u : Table) (rounds cells : ℕ) (so-far : Came J t u round
 
     pub came-more : (c ≡ 0 → ⊥) → Came J t w (rounds + 1) (cells + c)
     came-more some =
-        let later : finish J u ≡ round-then c (finish J w) =
-        finish-more J u (λ none. some (left .told-is ∙ none)) ∙ ap₂ round-then (sym (left .told-is)) (ap (finish J) (sym (left .table-is))) in
+        let later : finish J u ≡ roundThen c (finish J w) =
+        finish-more J u (λ none. some (left .told-is ∙ none)) ∙ ap₂ roundThen (sym (left .told-is)) (ap (finish J) (sym (left .table-is))) in
         record {
           formed = came-formed;
           table-is = so-far .table-is ∙ ap (λ f. f .table) later;

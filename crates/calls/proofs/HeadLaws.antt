@@ -22,7 +22,7 @@ use Rattle.job.proofs.ReadLaws.{read-passed}
 use Rattle.job.proofs.Agrees.{passed-job}
 use Rattle.cells.specs.Table.{Table, tableLength, cellsRight}
 use Rattle.cells.specs.Questions.{Question, tableSize, tableCells, node, numbers, numberOf, lineOf, passes}
-use Rattle.cells.specs.Calls.{Call, told, left, ownQuestions, answer, after}
+use Rattle.cells.specs.Calls.{Call, told, left, ownQuestions, width, answer, after}
 use Rattle.cells.proofs.CallLaws.{own-refused, own-accepted}
 use Rattle.machine.specs.Decoded.{Decoded}
 use Rattle.machine.specs.Fragments.{Readable, CutOf}
@@ -104,10 +104,10 @@ opened-ready x m places o t r r-is fine lines are =
 module _ (x : Text) (m : Machine) (places : List ℕ) (o : Opened x m places) (t : Table) (r : ℕ) (r-is : r ≡ tableNo (decode x) t) (c : Call)
     (rest : List Question) (listed : ownQuestions c ≡ tableSize ∷ (tableCells ∷ rest)) where
   -- it is refused by one of the two
-  pub table-refused : (r ≡ 0 → ⊥) → (refused r 0 ≡ answer c x t) × (t ≡ after c x t)
+  pub table-refused : (r ≡ 0 → ⊥) → (refused r 0 (width c) ≡ answer c x t) × (t ≡ after c x t)
   unfolding numberOf lineOf firstNo passes
   table-refused some-no =
-      by-table (decode x) t ((refused r 0 ≡ answer c x t) × (t ≡ after c x t))
+      by-table (decode x) t ((refused r 0 (width c) ≡ answer c x t) × (t ≡ after c x t))
       (λ e f. rw (r-is ∙ f) (own-refused x t (o .header) (o .read) c tableSize (rw listed (simp e))))
       (λ e w f. rw (r-is ∙ f) (own-refused x t (o .header) (o .read) c tableCells (rw listed (simp (e, w)))))
       (λ e w f. absurd (some-no (r-is ∙ f)))
@@ -123,7 +123,7 @@ module _ (x : Text) (m : Machine) (places : List ℕ) (o : Opened x m places) (t
     pub rest-refused :
         (q : Question)
         → firstNo (passes x t) rest ≡ opt.some q
-        → (refused (numberOf q) (lineOf x q) ≡ answer c x t) × (t ≡ after c x t)
+        → (refused (numberOf q) (lineOf x q) (width c) ≡ answer c x t) × (t ≡ after c x t)
     rest-refused q first-is = own-refused x t (o .header) (o .read) c q (rest-asked ∙ first-is)
 
     -- or accepted

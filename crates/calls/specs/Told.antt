@@ -10,32 +10,32 @@ use Rattle.calls.specs.declared.look.Looked as looked
 use Rattle.calls.specs.declared.close.Closed as closed
 use Rattle.calls.specs.declared.finish.Finished as finished
 
-abbrev by : Refusal → Answer
-by why = refused (why .number) (why .line)
+abbrev by : Refusal → ℕ → Answer
+by why others = refused (why .number) (why .line) others
 
 unfoldable pub stepTold : stepped.Stepped → Answer
 stepTold (stepped.the-variants.Accepted filled) = accepted (filled ∷ [])
-stepTold (stepped.the-variants.Refused why) = by why
+stepTold (stepped.the-variants.Refused why) = by why 1
 
 unfoldable pub offerTold : offered.Offered → Answer
 offerTold (offered.the-variants.Accepted m) = accepted (m .state ∷ m .subformula ∷ m .value ∷ [])
-offerTold (offered.the-variants.Refused why) = by why
+offerTold (offered.the-variants.Refused why) = by why 3
 
 unfoldable pub acceptTold : delivered.Delivered → Answer
 acceptTold (delivered.the-variants.Accepted filled) = accepted (filled ∷ [])
-acceptTold (delivered.the-variants.Refused why) = by why
+acceptTold (delivered.the-variants.Refused why) = by why 1
 
 unfoldable pub lookTold : looked.Looked → Answer
 lookTold (looked.the-variants.Accepted cell) = accepted (cell ∷ [])
-lookTold (looked.the-variants.Refused why) = by why
+lookTold (looked.the-variants.Refused why) = by why 1
 
 unfoldable pub closeTold : closed.Closed → Answer
 closeTold (closed.the-variants.Accepted c) = accepted (c .subformula ∷ c .filled ∷ [])
-closeTold (closed.the-variants.Refused why) = by why
+closeTold (closed.the-variants.Refused why) = by why 2
 
 unfoldable pub finishTold : finished.Finished → Answer
 finishTold (finished.the-variants.Accepted o) = accepted (o .verdict ∷ o .rounds ∷ o .cells ∷ [])
-finishTold (finished.the-variants.Refused why) = by why
+finishTold (finished.the-variants.Refused why) = by why 3
 
 -- The rounds done, 0 where finish is refused.
 unfoldable pub finishRounds : finished.Finished → ℕ

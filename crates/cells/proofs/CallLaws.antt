@@ -22,7 +22,7 @@ use Rattle.job.proofs.ReadLaws.{size-read, depth-read, nodes-read}
 use Rattle.job.specs.Job.{decode}
 use Rattle.cells.specs.Table.{Table, tableLength, freshTable}
 use Rattle.cells.specs.Questions.{Question, ofText, tableSize, numberOf, lineOf, passes}
-use Rattle.cells.specs.Calls.{Call, fresh, step, offer, accept, look, close, finish, told, left, ownQuestions, questions, refusal, answerUnless, afterUnless, answer, after}
+use Rattle.cells.specs.Calls.{Call, fresh, step, offer, accept, look, close, finish, told, left, ownQuestions, questions, refusal, width, answerUnless, afterUnless, answer, after}
 
 module _ (c : Call) (x : Text) (t : Table) where
   -- the reader's refusal, or else the first no to the call's own questions
@@ -45,14 +45,20 @@ module _ (c : Call) (x : Text) (t : Table) where
   refusal-own e = rw e at refusal-parts
 
   pub text-refused :
-      (number line : ℕ) → refused number line ≡ readAnswer x → (refused number line ≡ answer c x t) × (t ≡ after c x t)
+      (number line others : ℕ)
+      → refused number line others ≡ readAnswer x
+      → (refused number line (width c) ≡ answer c x t) × (t ≡ after c x t)
   unfolding readAnswer unless answer after answerUnless afterUnless numberOf lineOf
-  text-refused number line e = by-refusal (text.refusal x) refl
+  text-refused number line others e = by-refusal (text.refusal x) refl
     where
       by-refusal :
-          (r : Option text.Question) → text.refusal x ≡ r → (refused number line ≡ answer c x t) × (t ≡ after c x t)
+          (r : Option text.Question) → text.refusal x ≡ r → (refused number line (width c) ≡ answer c x t) × (t ≡ after c x t)
       by-refusal opt.none h = let never : _≡_ {A = ℕ} 0 1 = cc (rw h at e) in absurd (omega arith)
-      by-refusal (opt.some q) h = rw (refusal-text q h) (rw h at e, refl)
+      by-refusal (opt.some q) h =
+          let same = rw h at e in
+          let number-is : number ≡ text.numberOf q = cc in
+          let line-is : line ≡ text.noLine (text.asked q x) = cc in
+          rw (refusal-text q h) (ap₂ (λ n l. refused n l (width c)) number-is line-is, refl)
 
   -- so in the reader's own words
   pub reading-refused :
@@ -60,11 +66,11 @@ module _ (c : Call) (x : Text) (t : Table) where
       → readTold reading ≡ readAnswer x
       → reading ≡ Refused why
       → by ≡ refusalOf reading
-      → (refused (by .number) (by .line) ≡ answer c x t) × (t ≡ after c x t)
+      → (refused (by .number) (by .line) (width c) ≡ answer c x t) × (t ≡ after c x t)
   unfolding readTold refusalOf
   reading-refused reading why by read is same =
       let by-is : by ≡ why = same ∙ ap refusalOf is in
-      rw by-is (text-refused (why .number) (why .line) (sym (ap readTold is) ∙ read))
+      rw by-is (text-refused (why .number) (why .line) 4 (sym (ap readTold is) ∙ read))
 
   pub own-asked : (own : List ℕ) → accepted own ≡ readAnswer x → refusal c x t ≡ firstNo (passes x t) (ownQuestions c)
   unfolding readAnswer unless
@@ -91,7 +97,7 @@ module _ (x : Text) (t : Table) (own : List ℕ) (read : accepted own ≡ readAn
   pub own-refused :
       (c : Call) (q : Question)
       → firstNo (passes x t) (ownQuestions c) ≡ opt.some q
-      → (refused (numberOf q) (lineOf x q) ≡ answer c x t) × (t ≡ after c x t)
+      → (refused (numberOf q) (lineOf x q) (width c) ≡ answer c x t) × (t ≡ after c x t)
   unfolding answer after answerUnless afterUnless
   own-refused c q first-is = rw (own-asked c x t own read ∙ first-is) (refl, refl)
 
@@ -104,7 +110,7 @@ module _ (x : Text) (t : Table) (own : List ℕ) (read : accepted own ≡ readAn
 
   -- no job's length: refused, the table stays
   pub size-refused :
-      (c : Call) → (length t ≡ tableLength (decode x) → ⊥) → (refused 9 0 ≡ answer c x t) × (t ≡ after c x t)
+      (c : Call) → (length t ≡ tableLength (decode x) → ⊥) → (refused 9 0 (width c) ≡ answer c x t) × (t ≡ after c x t)
   unfolding numberOf lineOf firstNo passes
   size-refused c other =
       let (rest, listed) = first-own c in

@@ -27,4 +27,5 @@ pub mod Lower
 pub mod Exhausted
 pub mod Close
 pub mod Rounds
+pub mod Finish
 pub mod Verdict

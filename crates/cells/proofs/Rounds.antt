@@ -1,6 +1,5 @@
--- Rounds on any table that passes questions 9 and 10, sound or not: a round that fills nothing leaves no owner's cell empty,
--- and every other round fills one; so finish ends, with every owner's cell filled and every cell that it filled counted.
--- Assumes nothing.
+-- A round on any table that passes questions 9 and 10, sound or not: one that fills nothing leaves no owner's cell empty, and
+-- every other fills one. Assumes nothing.
 use Prim.Native.Nat.{ℕ, zero, suc, _+_, _<_, _≤_}
 use mathlib.Core.Path.{_≡_, refl, sym, _∙_, ap, subst}
 use mathlib.Core.Bool.{Bool, true, false, _&&_}
@@ -90,55 +89,3 @@ module _ (J : Job) (job : IsJob J) where
   pub round-fills : (t : Table) → Formed J t → (Complete J t → ⊥) → 0 < filled t (round J t)
   round-fills t formed lacks =
       by-order 0 (filled t (round J t)) (λ l. l) (λ none. absurd (lacks (round-idle t formed (omega arith))))
-
--- Finish, by the fuel that roundsFrom is given.
-module _ (J : Job) where
-  rounds-few : (n : ℕ) (t : Table) → roundsFrom J n t .rounds ≤ suc n
-  unfolding roundsFrom
-  rounds-few zero t = le-refl 1
-  rounds-few (suc n) t =
-      split (eqb (filled t (round J t)) 0)
-      (λ e. simp e (omega arith))
-      (λ e. simp e (omega (arith, rounds-few n (round J t))))
-
-  rounds-cells : (n : ℕ) (t : Table) → roundsFrom J n t .cells ≡ filled t (roundsFrom J n t .table)
-  unfolding roundsFrom
-  rounds-cells zero t = refl
-  rounds-cells (suc n) t =
-      let u = round J t in
-      split (eqb (filled t u) 0)
-      (λ e. simp e (sym (eqb-true (filled t u) 0 e)))
-      (λ e.
-      let sum = filled-sum J t u (round-grown J t) (roundsFrom J n u .table) (roundsFrom-grown J n u) in
-      simp e (omega (arith, rounds-cells n u)))
-
-module _ (J : Job) (job : IsJob J) where
-  -- a round that fills nothing leaves the table, and it is complete
-  idle-complete : (t : Table) → Formed J t → filled t (round J t) ≡ 0 → Complete J (round J t)
-  idle-complete t formed none = rw (filled-none J t (round J t) (round-grown J t) none) (round-idle J job t formed none)
-
-  rounds-complete : (n : ℕ) (t : Table) → Formed J t → emptyCells J t ≤ n → Complete J (roundsFrom J n t .table)
-  unfolding roundsFrom
-  rounds-complete zero t formed few =
-      idle-complete t formed (omega (arith, filled-empties J t (round J t) (round-grown J t)))
-  rounds-complete (suc n) t formed few =
-      let u = round J t in
-      split (eqb (filled t u) 0)
-      (λ e. simp e (idle-complete t formed (eqb-true (filled t u) 0 e)))
-      (λ e.
-      let some = eqb-false (filled t u) 0 e in
-      simp e
-      (rounds-complete n u (round-formed J t formed) (omega (arith, filled-empties J t u (round-grown J t)))))
-
-module _ (J : Job) (t : Table) where
-  pub finish-rounds : finish J t .rounds ≤ emptyCells J t + 1
-  unfolding finish
-  finish-rounds = omega (arith, rounds-few J (emptyCells J t) t)
-
-  pub finish-cells : finish J t .cells ≡ filled t (finish J t .table)
-  unfolding finish
-  finish-cells = rounds-cells J (emptyCells J t) t
-
-  pub finish-complete : IsJob J → Formed J t → Complete J (finish J t .table)
-  unfolding finish
-  finish-complete job formed = rounds-complete J job (emptyCells J t) t formed (le-refl (emptyCells J t))

@@ -22,7 +22,7 @@ use Rattle.cells.proofs.Settled.{settled-is}
 use Rattle.cells.proofs.Exhausted.{cell-one}
 use Rattle.cells.proofs.Close.{closeTable-sound}
 use Rattle.cells.proofs.Determined.{Filled}
-use Rattle.cells.proofs.Rounds.{finish-complete}
+use Rattle.cells.proofs.Finish.{finish-complete}
 
 module _ (J : Job) (job : IsJob J) where
   abbrev KeepsSound : Table → Table → Type 0

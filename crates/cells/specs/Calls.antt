@@ -50,7 +50,7 @@ questions c = map ofText text.questions ++ ownQuestions c
 unfoldable pub refusal : Call → Text → Table → Option Question
 refusal c x t = firstNo (passes x t) (questions c)
 
--- How many numbers an answer has besides number and line.
+-- How many numbers an answer has besides number and line; a refusal has 0 in each.
 unfoldable pub width : Call → ℕ
 width fresh = 0
 width (step n) = 1
@@ -84,7 +84,7 @@ left finish J t = finishing.finish J t .table
 
 unfoldable pub answerUnless : Option Question → Call → Text → Table → Answer
 answerUnless opt.none c x t = accepted (told c (decode x) t)
-answerUnless (opt.some q) c x t = refused (numberOf q) (lineOf x q)
+answerUnless (opt.some q) c x t = refused (numberOf q) (lineOf x q) (width c)
 
 -- "A refusal: the table and any other lent bytes stay."
 unfoldable pub afterUnless : Option Question → Call → Text → Table → Table

@@ -10,7 +10,7 @@ use Rattle.job.specs.Layout.{Text}
 use Rattle.job.specs.Job.{decode}
 use Rattle.job.specs.Answer.{numbers}
 use Rattle.cells.specs.Table.{Table, tableLength}
-use Rattle.cells.specs.Calls.{Call, fresh, step, accept, close, finish, answer, after, width}
+use Rattle.cells.specs.Calls.{Call, fresh, step, accept, close, finish, answer, after}
 
 -- The bytes of a quoted text of ASCII characters.
 unfoldable pub bytes : String → Text
@@ -20,7 +20,7 @@ bytes (c then cs) = code c ∷ bytes cs
 -- Calls with one text on one table, in this order: every number of each answer, and the table afterwards.
 unfoldable pub answers : Text → Table → List Call → List (List ℕ)
 answers x t [] = []
-answers x t (c ∷ cs) = numbers (width c) (answer c x t) ∷ answers x (after c x t) cs
+answers x t (c ∷ cs) = numbers (answer c x t) ∷ answers x (after c x t) cs
 
 unfoldable pub tableAfter : Text → Table → List Call → Table
 tableAfter x t [] = t

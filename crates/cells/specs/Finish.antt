@@ -1,6 +1,7 @@
 -- Document 01, "Messages, closing, finishing": a round, and finish. Assumes nothing.
 use Prim.Native.Nat.{ℕ, zero, suc, _+_, _-_}
 use mathlib.Core.Bool.{cond, _&&_}
+use mathlib.Core.Path.{_≡_}
 use lib.Dec.{eqb}
 use Rattle.job.specs.Job.{Job, depth}
 use Rattle.cells.specs.Table.{Table, ownerCell, filled, emptyCells}
@@ -32,7 +33,25 @@ pub record Finished : Type 0 where
   pub rounds : ℕ
   pub cells : ℕ
 
--- "Finish does rounds until one fills nothing", the last one counted: at most n + 1 rounds.
+-- A round that fills c cells, and what the rounds behind it leave.
+abbrev pub roundThen : ℕ → Finished → Finished
+roundThen c later = record { table = later .table; rounds = suc (later .rounds); cells = c + later .cells }
+
+-- "Finish does rounds until one fills nothing", the last one counted: what they leave of t is f. However many they are.
+pub data RoundsLeave (J : Job) : Table → Finished → Type 0 where
+  last :
+      (t : Table) (f : Finished)
+      → filled t (round J t) ≡ 0
+      → f ≡ record { table = round J t; rounds = 1; cells = 0 }
+      → RoundsLeave J t f
+  more :
+      (t : Table) (f later : Finished)
+      → (filled t (round J t) ≡ 0 → ⊥)
+      → RoundsLeave J (round J t) later
+      → f ≡ roundThen (filled t (round J t)) later
+      → RoundsLeave J t f
+
+-- The same, computed: at most n + 1 rounds.
 unfoldable pub roundsFrom : Job → ℕ → Table → Finished
 roundsFrom J zero t = record { table = round J t; rounds = 1; cells = filled t (round J t) }
 roundsFrom J (suc n) t =
@@ -41,9 +60,9 @@ roundsFrom J (suc n) t =
     let later = roundsFrom J n u in
     cond (eqb c 0)
     (record { table = u; rounds = 1; cells = 0 })
-    (record { table = later .table; rounds = suc (later .rounds); cells = c + later .cells })
+    (roundThen c later)
 
--- Each round but the last fills an empty cell of a fragment, so that many rounds, and one, are all there can be.
+-- No bound is felt: `finish-leaves` of `proofs/Finish.antt` shows that these are the rounds until one fills nothing.
 unfoldable pub finish : Job → Table → Finished
 finish J t = roundsFrom J (emptyCells J t) t
 

@@ -7,4 +7,4 @@ use Rattle.cells.specs.declared.fresh.Cleared.the-variants.{Accepted, Re
 
 unfoldable pub freshTold : Cleared → Answer
 freshTold Accepted = accepted []
-freshTold (Refused why) = refused (why .number) (why .line)
+freshTold (Refused why) = refused (why .number) (why .line) 0

@@ -25,11 +25,11 @@ use Rattle.cells.proofs.CallLaws.{refusal-text, refusal-own}
 use Rattle.cells.proofs.Formed.{Formed, formed-is, is-formed}
 
 module _ (c : Call) (x : Text) (t : Table) where
-  pub refused-stays : (number line : ℕ) → answer c x t ≡ refused number line → after c x t ≡ t
+  pub refused-stays : (number line others : ℕ) → answer c x t ≡ refused number line others → after c x t ≡ t
   unfolding answer after answerUnless afterUnless
-  refused-stays number line = stays (refusal c x t)
+  refused-stays number line others = stays (refusal c x t)
     where
-      stays : (r : Option Question) → answerUnless r c x t ≡ refused number line → afterUnless r c x t ≡ t
+      stays : (r : Option Question) → answerUnless r c x t ≡ refused number line others → afterUnless r c x t ≡ t
       stays opt.none e = let never : _≡_ {A = ℕ} 0 1 = cc in absurd (omega arith)
       stays (opt.some q) e = refl
 
@@ -43,13 +43,13 @@ module _ (c : Call) (x : Text) (t : Table) where
       taken (opt.some q) e = let never : _≡_ {A = ℕ} 0 1 = cc in absurd (omega arith)
 
   pub by-refusal {ℓ} :
-      {A : Type ℓ} → ((number line : ℕ) → answer c x t ≡ refused number line → A) → (refusal c x t ≡ opt.none → A) → A
+      {A : Type ℓ} → ((number line others : ℕ) → answer c x t ≡ refused number line others → A) → (refusal c x t ≡ opt.none → A) → A
   unfolding answer answerUnless
   by-refusal {A} no-case yes-case = by (refusal c x t) refl
     where
       by : (r : Option Question) → refusal c x t ≡ r → A
       by opt.none e = yes-case e
-      by (opt.some q) e = no-case _ _ (ap (λ r. answerUnless r c x t) e)
+      by (opt.some q) e = no-case _ _ _ (ap (λ r. answerUnless r c x t) e)
 
   module _ (taken : refusal c x t ≡ opt.none) where
     pub taken-told : answer c x t ≡ accepted (told c (decode x) t)

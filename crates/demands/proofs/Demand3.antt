@@ -55,5 +55,5 @@ pub finish-has-verdict : (x : Text) (t : Table) (own : List ℕ) → answer fini
 finish-has-verdict = accepted-finishes
 
 pub refused-changes-nothing :
-    (c : Call) (x : Text) (t : Table) (number line : ℕ) → answer c x t ≡ refused number line → after c x t ≡ t
+    (c : Call) (x : Text) (t : Table) (number line others : ℕ) → answer c x t ≡ refused number line others → after c x t ≡ t
 refused-changes-nothing = refused-stays

@@ -26,7 +26,7 @@ use Rattle.cells.proofs.Formed.{Formed, cell-low}
 use Rattle.cells.proofs.Sound.{truth, Sound}
 use Rattle.cells.proofs.Determined.{Filled}
 use Rattle.cells.proofs.Exhausted.{cell-one}
-use Rattle.cells.proofs.Rounds.{finish-rounds}
+use Rattle.cells.proofs.Finish.{finish-rounds}
 use Rattle.cells.proofs.Verdict.{first-state, verdict-filled, verdict-tells}
 use Rattle.demands.proofs.Calls.{accepted-taken, taken-told, taken-accepted, finish-asked, finish-taken}
 

@@ -27,7 +27,7 @@ told (c ∷ cs) t = answerTo c t ∷ told cs (tableAfter c t)
 
 pub example-told :
     told calls (after fresh (bytes job2) (zeros (bytes job2)))
-    ≡ accepted (5 ∷ []) ∷ accepted (1 ∷ 2 ∷ 1 ∷ []) ∷ accepted (1 ∷ []) ∷ accepted (0 ∷ []) ∷ refused 16 0 ∷ refused 1 1 ∷ []
+    ≡ accepted (5 ∷ []) ∷ accepted (1 ∷ 2 ∷ 1 ∷ []) ∷ accepted (1 ∷ []) ∷ accepted (0 ∷ []) ∷ refused 16 0 1 ∷ refused 1 1 2 ∷ []
 unfolding printed told calls of-job
 example-told = refl
 
@@ -58,7 +58,7 @@ example-meant = (
     isMeant refl (offer-none 1 2 []),
     (
       isMeant refl (accept-known _ 0 1 2 1 (List·Memᴰ·head refl)),
-      (isMeant refl (accept-known _ 0 1 2 1 (List·Memᴰ·head refl)), (isRefused 16 0 refl, (isRefused 1 1 refl, tt))),
+      (isMeant refl (accept-known _ 0 1 2 1 (List·Memᴰ·head refl)), (isRefused 16 0 1 refl, (isRefused 1 1 2 refl, tt))),
     ),
   ),
 )

@@ -76,10 +76,10 @@ module _ (x : Text) (is : Accepted x) where
     abbrev Kept : Call → Text → Type 0
     Kept c y = Invariant J (handedOut (answer c y t) c ++ out) (after c y t)
 
-    refused-keeps : (c : Made) (number line : ℕ) → answerTo c t ≡ Answer.refused number line → Kept (c .call) (c .text)
+    refused-keeps : (c : Made) (number line others : ℕ) → answerTo c t ≡ Answer.refused number line others → Kept (c .call) (c .text)
     unfolding handedOut
-    refused-keeps c number line e =
-        rw (refused-stays (c .call) (c .text) t number line e, e) before
+    refused-keeps c number line others e =
+        rw (refused-stays (c .call) (c .text) t number line others e, e) before
 
     taken-keeps :
         (c : Call)
@@ -99,7 +99,7 @@ module _ (x : Text) (is : Accepted x) where
         })
 
     allowed-keeps : (c : Made) → Allowed x out t c → Kept (c .call) (c .text)
-    allowed-keeps c (isRefused number line e) = refused-keeps c number line e
+    allowed-keeps c (isRefused number line others e) = refused-keeps c number line others e
     allowed-keeps c (isMeant same message) =
         rw same
         (by-refusal (c .call) x t (refused-keeps (record { text = x; call = c .call })) (λ taken. taken-keeps (c .call) taken message))

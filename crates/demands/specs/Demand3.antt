@@ -38,7 +38,7 @@ pub record Message : Type 0 where
 
 -- What a call hands out by its answer: an accepted offer its three numbers. "A refused offer hands out no message."
 unfoldable pub handedOut : Answer → Call → List Message
-handedOut (refused number line) c = []
+handedOut (refused number line others) c = []
 handedOut (accepted told) (offer s k) =
     record { state = getD told 0 0; subformula = getD told 1 0; value = getD told 2 0 } ∷ []
 handedOut (accepted told) fresh = []
@@ -51,7 +51,7 @@ handedOut (accepted told) finish = []
 -- What a call of the list may be, where the messages `out` were handed out earlier in it: "a refused call may have been passed
 -- any text and numbers"; any other was passed the job's text and, if it is an accept, a message of those.
 pub data Allowed (x : Text) (out : List Message) (t : Table) (c : Made) : Type 0 where
-  isRefused : (number line : ℕ) → answerTo c t ≡ refused number line → Allowed x out t c
+  isRefused : (number line others : ℕ) → answerTo c t ≡ refused number line others → Allowed x out t c
   isMeant :
       c .text ≡ x
       → ((n s k v : ℕ) → c .call ≡ accept n s k v → List·Memᴰ (record { state = s; subformula = k; value = v }) out)

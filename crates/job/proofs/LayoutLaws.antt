@@ -42,23 +42,23 @@ formed-end t at = refl
 
 -- The head's answer in each case.
 module _ (t : Text) where
-  first-line-no : (leb 21 (length t) && formed t 0 4) ≡ false → headAnswer t ≡ refused 1 1
+  first-line-no : (leb 21 (length t) && formed t 0 4) ≡ false → headAnswer t ≡ refused 1 1 4
   unfolding headAnswer headQuestions firstNo passes asked yes unless numberOf noLine
   first-line-no e = simp e
 
-  pub head-short : length t < 21 → headAnswer t ≡ refused 1 1
+  pub head-short : length t < 21 → headAnswer t ≡ refused 1 1 4
   head-short l = first-line-no (simp (lt-leb 21 (length t) l))
 
-  pub head-malformed : 21 ≤ length t → formed t 0 4 ≡ false → headAnswer t ≡ refused 1 1
+  pub head-malformed : 21 ≤ length t → formed t 0 4 ≡ false → headAnswer t ≡ refused 1 1 4
   head-malformed l f = first-line-no (simp (le-leb 21 (length t) l, f))
 
   module _ (l : 21 ≤ length t) (f : formed t 0 4 ≡ true) where
-    pub head-out-of-range : inRanges (states t) (edges t) (subformulas t) (nodes t) ≡ false → headAnswer t ≡ refused 2 1
+    pub head-out-of-range : inRanges (states t) (edges t) (subformulas t) (nodes t) ≡ false → headAnswer t ≡ refused 2 1 4
     unfolding headAnswer headQuestions firstNo passes asked yes unless numberOf noLine
     head-out-of-range r = simp (le-leb 21 (length t) l, f, r)
 
     module _ (r : inRanges (states t) (edges t) (subformulas t) (nodes t) ≡ true) where
-      pub head-wrong-length : (length t ≡ lengthOf t → ⊥) → headAnswer t ≡ refused 3 1
+      pub head-wrong-length : (length t ≡ lengthOf t → ⊥) → headAnswer t ≡ refused 3 1 4
       unfolding headAnswer headQuestions firstNo passes asked yes unless numberOf noLine
       head-wrong-length n = simp (le-leb 21 (length t) l, f, r, ne-eqb (length t) (lengthOf t) n)
 
@@ -66,8 +66,8 @@ module _ (t : Text) where
       unfolding headAnswer headQuestions firstNo passes asked yes unless numberOf noLine
       head-accepted e = simp (le-leb 21 (length t) l, f, r, eq-eqb (length t) (lengthOf t) e)
 
-pub refused-not-accepted : (own : List ℕ) (number line : ℕ) → accepted own ≡ refused number line → ⊥
-refused-not-accepted own number line e = let z : _≡_ {A = ℕ} 0 1 = cc in omega arith
+pub refused-not-accepted : (own : List ℕ) (number line others : ℕ) → accepted own ≡ refused number line others → ⊥
+refused-not-accepted own number line others e = let z : _≡_ {A = ℕ} 0 1 = cc in omega arith
 
 -- Accepted at the head means that each of the three questions is answered yes.
 module _ (t : Text) (own : List ℕ) (told : accepted own ≡ headAnswer t) where
@@ -75,7 +75,7 @@ module _ (t : Text) (own : List ℕ) (told : accepted own ≡ headAnswer t) wher
   unfolding passes asked yes
   head-line-formed =
       split (leb 21 (length t) && formed t 0 4) (λ e. e)
-      (λ e. absurd (refused-not-accepted own 1 1 (told ∙ first-line-no t e)))
+      (λ e. absurd (refused-not-accepted own 1 1 4 (told ∙ first-line-no t e)))
 
   head-length : 21 ≤ length t
   unfolding passes asked yes
@@ -89,7 +89,7 @@ module _ (t : Text) (own : List ℕ) (told : accepted own ≡ headAnswer t) wher
   unfolding passes asked yes
   head-in-ranges =
       split (inRanges (states t) (edges t) (subformulas t) (nodes t)) (λ e. e)
-      (λ e. absurd (refused-not-accepted own 2 1 (told ∙ head-out-of-range t head-length head-formed e)))
+      (λ e. absurd (refused-not-accepted own 2 1 4 (told ∙ head-out-of-range t head-length head-formed e)))
 
   pub head-length-right : passes t textLength ≡ true
   unfolding passes asked yes
@@ -97,7 +97,7 @@ module _ (t : Text) (own : List ℕ) (told : accepted own ≡ headAnswer t) wher
       split (eqb (length t) (lengthOf t)) (λ e. e)
       (λ e.
       absurd
-      (refused-not-accepted own 3 1
+      (refused-not-accepted own 3 1 4
       (told ∙ head-wrong-length t head-length head-formed head-in-ranges (eqb-false (length t) (lengthOf t) e))))
 
   pub head-own : own ≡ header t
@@ -183,7 +183,7 @@ fields-few t l =
     (λ g. rw (fields-four t l g) (lit≤ tt))
 
 -- The line asked for, where the head accepts and where it does not.
-pub line-refused : (t : Text) (l number line : ℕ) → refused number line ≡ headAnswer t → lineOf t l ≡ []
+pub line-refused : (t : Text) (l number line : ℕ) → refused number line 4 ≡ headAnswer t → lineOf t l ≡ []
 unfolding headAnswer headQuestions firstNo unless lineOf
 line-refused t l number line told =
     split (passes t firstLine)
@@ -191,7 +191,7 @@ line-refused t l number line told =
     split (passes t ranges)
     (λ b.
     split (passes t textLength)
-    (λ c. absurd (refused-not-accepted (header t) number line (sym (told ∙ simp (a, b, c)))))
+    (λ c. absurd (refused-not-accepted (header t) number line 4 (sym (told ∙ simp (a, b, c)))))
     (λ c. simp (a, b, c)))
     (λ b. simp (a, b)))
     (λ a. simp a)

@@ -27,7 +27,7 @@ use Rattle.job.proofs.Asked.{Passed, edge-ends, accepted-passes, accept
 use Rattle.job.proofs.LayoutLaws.{refused-not-accepted, head-fits}
 
 -- A refusal by the head is the reader's.
-pub read-head-refused : (t : Text) (number line : ℕ) → refused number line ≡ headAnswer t → refused number line ≡ readAnswer t
+pub read-head-refused : (t : Text) (number line : ℕ) → refused number line 4 ≡ headAnswer t → refused number line 4 ≡ readAnswer t
 unfolding headAnswer readAnswer refusal questions headQuestions lineQuestions firstNo unless
 read-head-refused t number line told =
     split (passes t firstLine)
@@ -35,7 +35,7 @@ read-head-refused t number line told =
     split (passes t ranges)
     (λ b.
     split (passes t textLength)
-    (λ c. absurd (refused-not-accepted (header t) number line (sym (told ∙ simp (a, b, c)))))
+    (λ c. absurd (refused-not-accepted (header t) number line 4 (sym (told ∙ simp (a, b, c)))))
     (λ c. told ∙ simp (a, b, c)))
     (λ b. told ∙ simp (a, b)))
     (λ a. told ∙ simp a)
@@ -58,7 +58,7 @@ module _
         → questions ≡ before ++ (q ∷ after)
         → every (passes t) before ≡ true
         → b < n
-        → refused (numberOf q) (l + b) ≡ readAnswer t
+        → refused (numberOf q) (l + b) 4 ≡ readAnswer t
     unfolding readAnswer refusal unless noLine
     lines-refuse before after listed passed h =
         rw (listed, first-no-at (passes t) before q after passed (lines-fail h), is, found)
@@ -107,7 +107,7 @@ read-header t own e = by-refusal (refusal t) refl
   where
     by-refusal : (r : Option Question) → refusal t ≡ r → own ≡ header t
     by-refusal opt.none h = cc (rw h at e)
-    by-refusal (opt.some q) h = absurd (refused-not-accepted own _ _ (rw h at e))
+    by-refusal (opt.some q) h = absurd (refused-not-accepted own _ _ _ (rw h at e))
 
 pub read-fits : (t : Text) (h : Header) → readTold (Accepted h) ≡ readAnswer t → Fits t h
 unfolding readTold readAnswer unless headAnswer headQuestions firstNo Accepted-text
@@ -123,7 +123,7 @@ read-fits t h told = by-refusal (refusal t) refl
 
     by-refusal : (r : Option Question) → refusal t ≡ r → Fits t h
     by-refusal opt.none e = head-fits t h (ap accepted (read-header t own told) ∙ head-told e)
-    by-refusal (opt.some q) e = absurd (refused-not-accepted own _ _ (rw e at told))
+    by-refusal (opt.some q) e = absurd (refused-not-accepted own _ _ _ (rw e at told))
 
 pub read-passed : (t : Text) (h : Header) → readTold (Accepted h) ≡ readAnswer t → Passed t
 unfolding readTold readAnswer unless Accepted-text
@@ -131,7 +131,7 @@ read-passed t h told = by-refusal (refusal t) refl
   where
     by-refusal : (r : Option Question) → refusal t ≡ r → Passed t
     by-refusal opt.none e = accepted-passed t e
-    by-refusal (opt.some q) e = absurd (refused-not-accepted _ _ _ (rw e at told))
+    by-refusal (opt.some q) e = absurd (refused-not-accepted _ _ _ _ (rw e at told))
 
 -- The table's length in a text's numbers, factor by factor.
 pub product-small : (t : Text) (h : Header) → Fits t h → (h .nodes * h .states ≤ 2048) × (h .nodes * h .states * h .subformulas ≤ 65536)

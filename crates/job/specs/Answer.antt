@@ -7,10 +7,10 @@ use lib.ListN.{replicate}
 pub data Answer : Type 0 where
   -- with the call's own numbers
   accepted : List ℕ → Answer
-  -- with the question's number and the line
-  refused : ℕ → ℕ → Answer
+  -- with the question's number, the line, and how many other numbers the call has
+  refused : ℕ → ℕ → ℕ → Answer
 
--- Every number of the answer of a call that has n numbers of its own: number, line, its own.
-unfoldable pub numbers : ℕ → Answer → List ℕ
-numbers n (accepted own) = 0 ∷ 0 ∷ own
-numbers n (refused number line) = number ∷ line ∷ replicate n 0
+-- Every number of an answer: number, line, and the call's own.
+unfoldable pub numbers : Answer → List ℕ
+numbers (accepted own) = 0 ∷ 0 ∷ own
+numbers (refused number line others) = number ∷ line ∷ replicate others 0

@@ -17,10 +17,10 @@ use Rattle.job.specs.declared.reader.Refusal.{Refusal}
 use Rattle.job.specs.declared.reader.Reading.{Reading}
 use Rattle.job.specs.declared.reader.Reading.the-variants.{Accepted, Refused}
 
--- own numbers where no question is answered no, else the refusal by that question
+-- own numbers where no question is answered no, else the refusal by that question, with 0 for each of the four
 unfoldable pub unless : Text → Option Question → List ℕ → Answer
 unless t opt.none own = accepted own
-unless t (opt.some q) own = refused (numberOf q) (noLine (asked q t))
+unless t (opt.some q) own = refused (numberOf q) (noLine (asked q t)) 4
 
 unfoldable pub header : Text → List ℕ
 header t = states t ∷ edges t ∷ subformulas t ∷ nodes t ∷ []
@@ -35,7 +35,7 @@ headAnswer t = unless t (firstNo (passes t) headQuestions) (header t)
 -- What each case of the reader's enum says, in document 01's numbers.
 unfoldable pub readTold : Reading → Answer
 readTold (Accepted h) = accepted (h .states ∷ h .edges ∷ h .subformulas ∷ h .nodes ∷ [])
-readTold (Refused why) = refused (why .number) (why .line)
+readTold (Refused why) = refused (why .number) (why .line) 4
 
 -- The refusal in the reader's answer.
 unfoldable pub refusalOf : Reading → Refusal

@@ -38,7 +38,7 @@ pub enum Reading {
 }
 
 pub(crate) fn refuse(number: u8, line: usize) -> Reading
-    ensures { λ r. ⌜ readTold r ≡ refused number line ⌝ }
+    ensures { λ r. ⌜ readTold r ≡ refused number line 4 ⌝ }
 {
     Reading::Refused(Refusal { number, line })
 }

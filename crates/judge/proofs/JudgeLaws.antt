@@ -37,7 +37,7 @@ pub head-refused :
     → ⊥
 unfolding readTold
 head-refused x own why told read =
-    refused-not-accepted own (why .number) (why .line) (read ∙ sym (read-head-refused x (why .number) (why .line) told))
+    refused-not-accepted own (why .number) (why .line) 4 (read ∙ sym (read-head-refused x (why .number) (why .line) told))
 
 -- the answer of a call on a table of the job's length, if the text is accepted, whatever the table else
 pub any-table :
@@ -48,8 +48,8 @@ any-table c x t u same = by-answer (readAnswer x) refl
   where
     by-answer : (a : Answer) → readAnswer x ≡ a → answer c x t ≡ answer c x u
     by-answer (accepted own) e = ap (answer c x) (same own (sym e))
-    by-answer (refused number line) e =
-        sym (text-refused c x t number line (sym e) .0) ∙ text-refused c x u number line (sym e) .0
+    by-answer (refused number line others) e =
+        sym (text-refused c x t number line others (sym e) .0) ∙ text-refused c x u number line others (sym e) .0
 
 -- the first cells of a fresh table are a fresh table
 pub take-fresh : (n m : ℕ) → n ≤ m → take {A = ℕ} n (replicate m 2) ≡ replicate n 2

@@ -22,7 +22,7 @@ use Rattle.cells.specs.Finish.{finish, verdict}
 use Rattle.cells.specs.Questions.{passes as asks}
 use Rattle.cells.specs.Calls.{Call, answer, told, width, ownQuestions}
 use Rattle.cells.proofs.Formed.{Formed, is-formed, freshTable-formed}
-use Rattle.cells.proofs.Rounds.{finish-rounds, finish-cells}
+use Rattle.cells.proofs.Finish.{finish-rounds, finish-cells}
 use Rattle.cells.proofs.Verdict.{verdict-filled}
 use Rattle.cells.proofs.CallLaws.{text-refused, own-accepted}
 use Rattle.judge.specs.Judged.{shown}
@@ -82,12 +82,12 @@ few-lines t right =
     let k = within-between 1 32 (subformulas t) (and-right (ws && we) wk three) .below in
     omega (arith, s, e, k)
 
-refused-small : (t : Text) (number line : ℕ) → refused number line ≡ readAnswer t → (number ≤ 8) × (line ≤ 2338)
+refused-small : (t : Text) (number line others : ℕ) → refused number line others ≡ readAnswer t → (number ≤ 8) × (line ≤ 2338)
 unfolding readAnswer unless
-refused-small t number line told = by-refusal (refusal t) refl
+refused-small t number line others told = by-refusal (refusal t) refl
   where
     by-refusal : (r : Option Question) → refusal t ≡ r → (number ≤ 8) × (line ≤ 2338)
-    by-refusal opt.none e = absurd (refused-not-accepted _ number line (sym (rw e at told)))
+    by-refusal opt.none e = absurd (refused-not-accepted _ number line others (sym (rw e at told)))
     by-refusal (opt.some q) e =
         let same = rw e at told in
         let number-is : number ≡ numberOf q = cc in
@@ -116,7 +116,7 @@ module _ (x : Text) (own : List ℕ) (read : accepted own ≡ readAnswer x) wher
     where
       by-refusal : (r : Option Question) → refusal x ≡ r → IsJob J
       by-refusal opt.none e = decode-is-job x e
-      by-refusal (opt.some q) e = absurd (refused-not-accepted own _ _ (rw e at read))
+      by-refusal (opt.some q) e = absurd (refused-not-accepted own _ _ _ (rw e at read))
 
   t-formed : Formed J t
   unfolding freshTable
@@ -135,8 +135,8 @@ module _ (x : Text) (own : List ℕ) (read : accepted own ≡ readAnswer x) wher
   fresh-finish = let (long, right) = is-formed J t t-formed in own-accepted x t own read Call.finish (simp (long, right)) .0
 
   finish-small :
-      map shown (numbers (width Call.finish) (accepted (told Call.finish J t)))
-      ≡ numbers (width Call.finish) (accepted (told Call.finish J t))
+      map shown (numbers (accepted (told Call.finish J t)))
+      ≡ numbers (accepted (told Call.finish J t))
   unfolding told numbers emptyCells filled
   finish-small =
       let done = finish J t in
@@ -152,7 +152,7 @@ module _ (x : Text) (own : List ℕ) (read : accepted own ≡ readAnswer x) wher
 pub all-shown :
     (x : Text)
     → let a = answer Call.finish x (replicate (tableLength (decode x)) 2) in
-    map shown (numbers (width Call.finish) a) ≡ numbers (width Call.finish) a
+    map shown (numbers a) ≡ numbers a
 unfolding numbers width
 all-shown x = by-answer (readAnswer x) refl
   where
@@ -160,9 +160,9 @@ all-shown x = by-answer (readAnswer x) refl
         (r : Answer)
         → readAnswer x ≡ r
         → let a = answer Call.finish x (replicate (tableLength (decode x)) 2) in
-        map shown (numbers (width Call.finish) a) ≡ numbers (width Call.finish) a
+        map shown (numbers a) ≡ numbers a
     by-answer (accepted own) e = rw (sym (fresh-finish x own (sym e))) (finish-small x own (sym e))
-    by-answer (refused number line) e =
-        let (number-small, line-small) = refused-small x number line (sym e) in
-        rw (sym (text-refused Call.finish x (replicate (tableLength (decode x)) 2) number line (sym e) .0))
+    by-answer (refused number line others) e =
+        let (number-small, line-small) = refused-small x number line others (sym e) in
+        rw (sym (text-refused Call.finish x (replicate (tableLength (decode x)) 2) number line others (sym e) .0))
         (ap₂ (λ a b. a ∷ b ∷ 0 ∷ 0 ∷ 0 ∷ []) (shown-whole number (omega arith)) (shown-whole line (omega arith)))

@@ -11,7 +11,7 @@ use Rattle.job.specs.Read.{readTold, readAnswer}
 use Rattle.job.specs.declared.reader.Reading.the-variants.{Accepted}
 use Rattle.cells.specs.Table.{Table, tableLength, index}
 use Rattle.cells.specs.Questions.{Question, numbers, temporal, agrees, numberOf, lineOf, passes}
-use Rattle.cells.specs.Calls.{Call, ownQuestions, told, left}
+use Rattle.cells.specs.Calls.{Call, ownQuestions, width, told, left}
 use Rattle.cells.proofs.CallLaws.{reading-refused}
 use Rattle.cells.proofs.FragmentLaws.{border-inside}
 use Rattle.machine.specs.Held.{placeOf}
@@ -68,7 +68,7 @@ module _ (c : tie.Start) where
   answered = passes text-of table-of
 
 returns : tie.Need-returns
-unfolding acceptTold
+unfolding acceptTold width
 returns c =
     let a = c .before .before .before .before .before .before in
     reading-refused (call-of a) (text-of a) (table-of a) _ _ _ (c .before .before .before .read .ensures) (c .before .enum-told .given .1) (c .refused-by .ensures)
@@ -92,7 +92,7 @@ same-length : tie.Need-same-length
 same-length c = search needs
 
 returns-2 : tie.Need-returns-2
-unfolding acceptTold ownQuestions
+unfolding acceptTold ownQuestions width
 returns-2 c =
     let a = start-of (c .before) in
     let (o, no-is) = c .before .prepare .ensures in
@@ -109,7 +109,7 @@ same-length-2 : tie.Need-same-length-2
 same-length-2 c = search needs
 
 returns-3 : tie.Need-returns-3
-unfolding acceptTold ownQuestions numberOf lineOf
+unfolding acceptTold ownQuestions numberOf lineOf width
 returns-3 c =
     let a = asked-10 (c .before .before .before) in
     asked-no _ _ _ _ _ _ a _ _ refl (node-no _ _ _ (a .opened) _ _ (c .if2 .taken))
@@ -130,7 +130,7 @@ same-length-3 : tie.Need-same-length-3
 same-length-3 c = search needs
 
 returns-4 : tie.Need-returns-4
-unfolding acceptTold ownQuestions numberOf lineOf
+unfolding acceptTold ownQuestions numberOf lineOf width
 returns-4 c = asked-no _ _ _ _ _ _ (asked-11 (c .before .before)) _ _ refl (numbers-here (c .before) ∙ not-true _ (c .if3 .taken))
 
 -- behind 12
@@ -181,7 +181,7 @@ same-length-4 : tie.Need-same-length-4
 same-length-4 c = search needs
 
 returns-5 : tie.Need-returns-5
-unfolding acceptTold ownQuestions numberOf lineOf
+unfolding acceptTold ownQuestions numberOf lineOf width
 returns-5 c = asked-no _ _ _ _ _ _ (asked-12 (c .before .before .before .before)) _ _ refl (temporal-here (c .before) ∙ not-true _ (c .if4 .taken))
 
 asked-13 : (c : tie.Else4) → AskedHere (prepared (c .before .before .before .before)) 5
@@ -192,7 +192,7 @@ same-length-5 : tie.Need-same-length-5
 same-length-5 c = search needs
 
 returns-6 : tie.Need-returns-6
-unfolding acceptTold ownQuestions numberOf lineOf
+unfolding acceptTold ownQuestions numberOf lineOf width
 returns-6 c = asked-no _ _ _ _ _ _ (asked-13 (c .before)) _ _ refl (value-no _ _ _ (c .if5 .taken))
 
 asked-15 : (c : tie.Else5) → AskedHere (prepared (c .before .before .before .before .before)) 6
@@ -213,7 +213,7 @@ same-length-6 : tie.Need-same-length-6
 same-length-6 c = search needs
 
 returns-7 : tie.Need-returns-7
-unfolding acceptTold ownQuestions numberOf lineOf
+unfolding acceptTold ownQuestions numberOf lineOf width
 returns-7 c = asked-no _ _ _ _ _ _ (asked-15 (c .before .before .before .before)) _ _ refl (border-no _ _ _ _ _ (place-here (c .before)) (c .if6 .taken))
 
 asked-16 : (c : tie.Else6) → AskedHere (prepared (numbered (c .before))) 7
@@ -244,7 +244,7 @@ same-length-7 : tie.Need-same-length-7
 same-length-7 c = search needs
 
 returns-8 : tie.Need-returns-8
-unfolding acceptTold ownQuestions numberOf lineOf
+unfolding acceptTold ownQuestions numberOf lineOf width
 returns-8 c = asked-no _ _ _ _ _ _ (asked-16 (c .before .before .before .before)) _ _ refl (agrees-here (c .before) ∙ ap not (c .if7 .taken))
 
 asked-17 : (c : tie.Else7) → AskedHere (prepared (numbered (c .before .before .before .before .before))) 8
@@ -258,7 +258,7 @@ same-length-8 : tie.Need-same-length-8
 same-length-8 c = search needs
 
 returns-9 : tie.Need-returns-9
-unfolding acceptTold ownQuestions told left
+unfolding acceptTold ownQuestions told left width
 returns-9 c =
     let asked = c .before .before .before .before in
     let at-border = asked .before .before .before .before in

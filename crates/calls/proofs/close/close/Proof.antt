@@ -12,7 +12,7 @@ use Rattle.cells.specs.Table.{Table}
 use Rattle.cells.specs.Close.{settled, smallestOpen}
 use Rattle.cells.specs.Questions.{numberOf, lineOf}
 use Rattle.cells.specs.Questions as asked
-use Rattle.cells.specs.Calls.{Call, ownQuestions, told, left}
+use Rattle.cells.specs.Calls.{Call, ownQuestions, width, told, left}
 use Rattle.cells.proofs.CallLaws.{reading-refused}
 use Rattle.calls.specs.Ready.{Ready}
 use Rattle.calls.specs.Told.{closeTold}
@@ -36,7 +36,7 @@ refused-by-requires : tie.Need-refused-by-requires
 refused-by-requires c κs = search needs
 
 returns : tie.Need-returns
-unfolding closeTold
+unfolding closeTold width
 returns c =
     let a = c .before .before .before .before .before .before .args in
     reading-refused Call.close (a .text .now) (a .table .now) _ _ _ (c .before .before .before .read .ensures) (c .before .enum-told .given .1) (c .refused-by .ensures)
@@ -60,7 +60,7 @@ same-length : tie.Need-same-length
 same-length c = search needs
 
 returns-2 : tie.Need-returns-2
-unfolding closeTold ownQuestions
+unfolding closeTold ownQuestions width
 returns-2 c =
     let p = c .before in
     table-refused _ _ _ (p .prepare .ensures .0) (table-of p) _ (p .prepare .ensures .1) Call.close _ refl (c .if1 .taken)
@@ -84,7 +84,7 @@ same-length-2 : tie.Need-same-length-2
 same-length-2 c = search needs
 
 returns-3 : tie.Need-returns-3
-unfolding closeTold ownQuestions numberOf lineOf
+unfolding closeTold ownQuestions numberOf lineOf width
 returns-3 c =
     let f = c .before .before .before .before .before in
     let p = f .before .before .before in
@@ -117,7 +117,7 @@ same-length-3 : tie.Need-same-length-3
 same-length-3 c = search needs
 
 returns-4 : tie.Need-returns-4
-unfolding closeTold ownQuestions numberOf lineOf
+unfolding closeTold ownQuestions numberOf lineOf width
 returns-4 c =
     let k = c .before in
     let f = formula-of k in
@@ -136,7 +136,7 @@ same-length-4 : tie.Need-same-length-4
 same-length-4 c = search needs
 
 returns-5 : tie.Need-returns-5
-unfolding closeTold ownQuestions told left
+unfolding closeTold ownQuestions told left width
 returns-5 c =
     let k = c .before .before .before .before .before .before .before in
     let f = formula-of k in

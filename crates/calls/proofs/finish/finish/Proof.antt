@@ -8,9 +8,9 @@ use Rattle.job.specs.Read.{readTold, readAnswer}
 use Rattle.job.specs.declared.reader.Reading.the-variants.{Accepted}
 use Rattle.cells.specs.Table.{Table}
 use Rattle.cells.specs.Finish.{finish}
-use Rattle.cells.specs.Calls.{Call, ownQuestions, left}
+use Rattle.cells.specs.Calls.{Call, ownQuestions, width, left}
 use Rattle.cells.proofs.CallLaws.{reading-refused}
-use Rattle.cells.proofs.Rounds.{finish-rounds}
+use Rattle.cells.proofs.Finish.{finish-rounds}
 use Rattle.exchange.proofs.FromHeld.{held-owners}
 use Rattle.calls.specs.Ready.{Ready}
 use Rattle.calls.specs.Told.{finishTold, finishRounds}
@@ -35,7 +35,7 @@ refused-by-requires : tie.Need-refused-by-requires
 refused-by-requires c κs = search needs
 
 returns : tie.Need-returns
-unfolding finishTold finishRounds
+unfolding finishTold finishRounds width
 returns c =
     let a = c .before .before .before .before .before .before .args in
     let (answer-is, after-is) =
@@ -62,7 +62,7 @@ same-length : tie.Need-same-length
 same-length c = search needs
 
 returns-2 : tie.Need-returns-2
-unfolding finishTold finishRounds ownQuestions
+unfolding finishTold finishRounds ownQuestions width
 returns-2 c =
     let p = c .before in
     let (answer-is, after-is) =
@@ -113,7 +113,7 @@ same-length-2 : tie.Need-same-length-2
 same-length-2 c = search needs
 
 returns-3 : tie.Need-returns-3
-unfolding finishTold finishRounds ownQuestions left firstNo
+unfolding finishTold finishRounds ownQuestions left firstNo width
 returns-3 c =
     let r = c .before .before .before .before .before .before in
     let p = prepared r in

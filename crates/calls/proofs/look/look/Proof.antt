@@ -12,7 +12,7 @@ use Rattle.job.specs.Job.{decode}
 use Rattle.job.specs.Read.{readTold}
 use Rattle.cells.specs.Table.{Table, tableLength, index, cell}
 use Rattle.cells.specs.Questions.{nodeOr255, numbers, inFragment, numberOf, lineOf, passes}
-use Rattle.cells.specs.Calls.{Call, nodeRead, ownQuestions, told, left}
+use Rattle.cells.specs.Calls.{Call, nodeRead, ownQuestions, width, told, left}
 use Rattle.cells.proofs.CallLaws.{reading-refused}
 use Rattle.machine.specs.Held.{placeOf}
 use Rattle.exchange.specs.Lent.{Cell}
@@ -37,7 +37,7 @@ refused-by-requires : tie.Need-refused-by-requires
 refused-by-requires c κs = search needs
 
 returns : tie.Need-returns
-unfolding lookTold
+unfolding lookTold width
 returns c =
     let a = c .before .before .before .before .before .before .args in
     reading-refused (Call.look (a .node) (a .state) (a .subformula)) (a .text .now) (a .table .now) _ _ _
@@ -70,7 +70,7 @@ module _ (c : tie.After-prepare) where
   call-of = Call.look node-of state-of subformula-of
 
 returns-2 : tie.Need-returns-2
-unfolding lookTold ownQuestions
+unfolding lookTold ownQuestions width
 returns-2 c =
     let p = c .before in
     table-refused _ _ _ (p .prepare .ensures .0) (table-of p) _ (p .prepare .ensures .1) (call-of p) _ refl (c .if1 .taken)
@@ -87,7 +87,7 @@ module _ (c : tie.After-node-read) where
   table-passed = c .before .before .if1 .left
 
 returns-3 : tie.Need-returns-3
-unfolding lookTold ownQuestions numberOf lineOf firstNo
+unfolding lookTold ownQuestions numberOf lineOf firstNo width
 returns-3 c =
     let n = c .before .before in
     let p = prepared n in
@@ -117,7 +117,7 @@ module _ (c : tie.After-are-in) where
       numbers-are _ _ _ (p .prepare .ensures .0) (table-of p) (state-of p) (subformula-of p) (c .are-in .result) v (c .are-in .ensures) is
 
 returns-4 : tie.Need-returns-4
-unfolding lookTold ownQuestions numberOf lineOf firstNo
+unfolding lookTold ownQuestions numberOf lineOf firstNo width
 returns-4 c =
     let a = c .before in
     let p = prepared (node-at a) in
@@ -158,7 +158,7 @@ place-here c =
     ∙ ap (λ i. placeOf (decode (text-of p)) i (state-of p)) (n .node-read .ensures)
 
 returns-5 : tie.Need-returns-5
-unfolding lookTold ownQuestions numberOf lineOf firstNo
+unfolding lookTold ownQuestions numberOf lineOf firstNo width
 returns-5 c =
     let g = c .before .before in
     let a = tested g in
@@ -194,7 +194,7 @@ shared-slice-read-cell c =
     rw (table-fine _ _ (sym (prepared n .prepare .ensures .1) ∙ table-passed n) .0) (byte-here (c .before) .1)
 
 returns-6 : tie.Need-returns-6
-unfolding lookTold ownQuestions told left firstNo cell
+unfolding lookTold ownQuestions told left firstNo cell width
 returns-6 c =
     let l = c .before .before .before in
     let g = l .before in

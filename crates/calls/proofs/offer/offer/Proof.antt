@@ -13,7 +13,7 @@ use Rattle.job.specs.Read.{readTold, readAnswer}
 use Rattle.job.specs.declared.reader.Reading.the-variants.{Accepted}
 use Rattle.cells.specs.Table.{Table, ownerCell}
 use Rattle.cells.specs.Questions.{numbers, temporal, ownerFilled, numberOf, lineOf, passes}
-use Rattle.cells.specs.Calls.{Call, ownQuestions, told, left}
+use Rattle.cells.specs.Calls.{Call, ownQuestions, width, told, left}
 use Rattle.cells.proofs.CallLaws.{reading-refused}
 use Rattle.exchange.specs.Lent.{Lent}
 use Rattle.exchange.proofs.FromHeld.{held-lent}
@@ -37,7 +37,7 @@ refused-by-requires : tie.Need-refused-by-requires
 refused-by-requires c κs = search needs
 
 returns : tie.Need-returns
-unfolding offerTold
+unfolding offerTold width
 returns c =
     let a = c .before .before .before .before .before .before .args in
     reading-refused (Call.offer (a .state) (a .subformula)) (a .text .now) (a .table .now) _ _ _
@@ -74,7 +74,7 @@ module _ (c : tie.After-prepare) where
   call-of = Call.offer state-of subformula-of
 
 returns-2 : tie.Need-returns-2
-unfolding offerTold ownQuestions
+unfolding offerTold ownQuestions width
 returns-2 c =
     let p = c .before .before in
     table-refused _ _ _ (p .prepare .ensures .0) (table-of p) _ (p .prepare .ensures .1) (call-of p) _ refl (c .if1 .taken)
@@ -99,7 +99,7 @@ module _ (c : tie.After-are-in) where
       numbers-are _ _ _ (p .prepare .ensures .0) (table-of p) (state-of p) (subformula-of p) (c .are-in .result) v (c .are-in .ensures) is
 
 returns-3 : tie.Need-returns-3
-unfolding offerTold ownQuestions numberOf lineOf firstNo
+unfolding offerTold ownQuestions numberOf lineOf firstNo width
 returns-3 c =
     let a = c .before in
     let p = prepared a in
@@ -163,7 +163,7 @@ module _ (c : tie.After-is-temporal) where
       ∙ sym (c .is-temporal .ensures) ∙ is
 
 returns-4 : tie.Need-returns-4
-unfolding offerTold ownQuestions numberOf lineOf firstNo
+unfolding offerTold ownQuestions numberOf lineOf firstNo width
 returns-4 c =
     let f = decoded (c .before) in
     let a = tested f in
@@ -192,7 +192,7 @@ module _ (c : tie.After-owner-cell) where
   owner-cell-here = let lent = lent-here (decoded kind-at) in c .owner-cell .ensures _ (lent .framed .sized) (lent .owned)
 
 returns-5 : tie.Need-returns-5
-unfolding offerTold ownQuestions numberOf lineOf firstNo
+unfolding offerTold ownQuestions numberOf lineOf firstNo width
 returns-5 c =
     let r = c .before in
     let f = decoded (kind-at r) in
@@ -207,7 +207,7 @@ returns-5 c =
     ))
 
 returns-6 : tie.Need-returns-6
-unfolding offerTold ownQuestions told left firstNo
+unfolding offerTold ownQuestions told left firstNo width
 returns-6 c =
     let r = c .before in
     let f = decoded (kind-at r) in

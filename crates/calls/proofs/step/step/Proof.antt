@@ -10,7 +10,7 @@ use Rattle.job.specs.Read.{readTold, readAnswer}
 use Rattle.job.specs.declared.reader.Reading.the-variants.{Accepted}
 use Rattle.cells.specs.Table.{Table}
 use Rattle.cells.specs.Questions.{node, numberOf, lineOf}
-use Rattle.cells.specs.Calls.{Call, ownQuestions, told, left}
+use Rattle.cells.specs.Calls.{Call, ownQuestions, width, told, left}
 use Rattle.cells.proofs.CallLaws.{reading-refused}
 use Rattle.stepping.specs.Task as stepping
 use Rattle.calls.specs.Told.{stepTold}
@@ -33,7 +33,7 @@ refused-by-requires : tie.Need-refused-by-requires
 refused-by-requires c κs = search needs
 
 returns : tie.Need-returns
-unfolding stepTold
+unfolding stepTold width
 returns c =
     let a = c .before .before .before .before .before .before .args in
     reading-refused (Call.step (a .node)) (a .text .now) (a .table .now) _ _ _ (c .before .before .before .read .ensures) (c .before .enum-told .given .1) (c .refused-by .ensures)
@@ -60,7 +60,7 @@ same-length : tie.Need-same-length
 same-length c = search needs
 
 returns-2 : tie.Need-returns-2
-unfolding stepTold ownQuestions
+unfolding stepTold ownQuestions width
 returns-2 c =
     let p = c .before in
     table-refused _ _ _ (p .prepare .ensures .0) (table-of p) _ (p .prepare .ensures .1) (Call.step (node-of p)) _ refl (c .if1 .taken)
@@ -69,7 +69,7 @@ same-length-2 : tie.Need-same-length-2
 same-length-2 c = search needs
 
 returns-3 : tie.Need-returns-3
-unfolding stepTold ownQuestions numberOf lineOf firstNo
+unfolding stepTold ownQuestions numberOf lineOf firstNo width
 returns-3 c =
     let p = c .before .before .before .before in
     let (o, no-is) = p .prepare .ensures in
@@ -95,7 +95,7 @@ same-length-3 : tie.Need-same-length-3
 same-length-3 c = search needs
 
 returns-4 : tie.Need-returns-4
-unfolding stepTold ownQuestions told left firstNo
+unfolding stepTold ownQuestions told left firstNo width
 returns-4 c =
     let f = c .before .before .before .before .before .before in
     let p = f .before .before .before .before .before in

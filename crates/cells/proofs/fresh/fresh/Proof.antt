@@ -6,7 +6,7 @@ use Rattle.job.specs.Read.{readTold, readAnswer}
 use Rattle.job.specs.declared.reader.Header.{Header}
 use Rattle.job.specs.declared.reader.Reading.the-variants.{Accepted}
 use Rattle.job.proofs.ReadLaws.{read-fits, product-small}
-use Rattle.cells.specs.Calls.{Call}
+use Rattle.cells.specs.Calls.{Call, width}
 use Rattle.cells.specs.Told.{freshTold}
 use Rattle.cells.proofs.CallLaws.{reading-refused, size-refused, fresh-accepted, length-read}
 use native.Mathlib.Omega.{arith}
@@ -27,7 +27,7 @@ refused-by-requires : tie.Need-refused-by-requires
 refused-by-requires c κs = search needs
 
 returns : tie.Need-returns
-unfolding freshTold
+unfolding freshTold width
 returns c =
     let a = c .before .before .before .before .before .before .args in
     reading-refused Call.fresh (a .text .now) (a .table .now) _ _ _ (c .before .before .before .read .ensures) (c .before .enum-told .given .1)
@@ -55,7 +55,7 @@ mul-if1-2 : tie.Need-mul-if1-2
 mul-if1-2 c = let small = small-here (c .before .before) in omega arith
 
 returns-2 : tie.Need-returns-2
-unfolding freshTold readTold
+unfolding freshTold readTold width
 returns-2 c =
     let p = c .before .before .before in
     size-refused (text-of p) _ _ (told-here p) Call.fresh (λ e. c .if1 .taken (e ∙ length-read (text-of p) (header-of p) (told-here p)))
@@ -67,7 +67,7 @@ same-length : tie.Need-same-length
 same-length c = search needs
 
 returns-3 : tie.Need-returns-3
-unfolding freshTold readTold
+unfolding freshTold readTold width
 returns-3 c =
     let p = c .before .before .before .before .before .before .before in
     let (told, left) =
