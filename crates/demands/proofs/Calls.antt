@@ -15,14 +15,17 @@ use Rattle.law.proofs.Bool.{and-left, and-right}
 use Rattle.law.proofs.Lists.{every-elim, no-first}
 use Rattle.job.specs.Layout.{Text}
 use Rattle.job.specs.Job.{decode, size, depth}
-use Rattle.job.specs.Answer.{accepted, refused}
+use Rattle.job.specs.Answer.{Answer, accepted, refused}
 use Rattle.job.specs.Questions as text
 use Rattle.cells.specs.Table.{Table, tableLength}
 use Rattle.cells.specs.Close as close
 use Rattle.cells.specs.Questions.{Question, settled, passes}
 use Rattle.cells.specs.Calls.{Call, fresh, step, offer, accept, close, finish, ownQuestions, refusal, told, left, answerUnless, afterUnless, answer, after}
+use Rattle.demands.specs.Contracts.{Lent, Happens}
+use Rattle.demands.specs.Demand1.{ReadsOrRefuses, reads, refuses}
 use Rattle.cells.proofs.CallLaws.{refusal-text, refusal-own}
 use Rattle.cells.proofs.Formed.{Formed, formed-is, is-formed}
+use Rattle.demands.proofs.Contracts.{happens-defined}
 
 module _ (c : Call) (x : Text) (t : Table) where
   pub refused-stays : (number line others : ℕ) → answer c x t ≡ refused number line others → after c x t ≡ t
@@ -32,6 +35,15 @@ module _ (c : Call) (x : Text) (t : Table) where
       stays : (r : Option Question) → answerUnless r c x t ≡ refused number line others → afterUnless r c x t ≡ t
       stays opt.none e = let never : _≡_ {A = ℕ} 0 1 = cc in absurd (omega arith)
       stays (opt.some q) e = refl
+
+  -- "reads or refuses under the number of the first check that fails"
+  pub answer-first : ReadsOrRefuses c x t (answer c x t)
+  unfolding answer answerUnless
+  answer-first = by (refusal c x t) refl
+    where
+      by : (r : Option Question) → refusal c x t ≡ r → ReadsOrRefuses c x t (answerUnless (refusal c x t) c x t)
+      by opt.none e = reads e (ap (λ r. answerUnless r c x t) e)
+      by (opt.some q) e = refuses q e (ap (λ r. answerUnless r c x t) e)
 
   -- A call is accepted where no question has a no.
   pub accepted-taken : (own : List ℕ) → answer c x t ≡ accepted own → refusal c x t ≡ opt.none
@@ -118,3 +130,13 @@ module _ (x : Text) (t : Table) where
   finish-taken is formed =
       let (size, cells) = is-formed (decode x) t formed in
       refusal-own finish x t is ∙ simp (size, cells)
+
+-- The same of a call that happened.
+module _ (l : Lent) (x : Text) (c : Call) (t u : Table) where
+  pub happens-first : (a : Answer) → Happens l x c t a u → ReadsOrRefuses c x t a
+  happens-first a happens = rw (happens-defined l x c t a u happens .0) (answer-first c x t)
+
+  pub happens-stays : (number line others : ℕ) → Happens l x c t (refused number line others) u → u ≡ t
+  happens-stays number line others happens =
+      let (told-is, left-is) = happens-defined l x c t (refused number line others) u happens in
+      left-is ∙ refused-stays c x t number line others (sym told-is)

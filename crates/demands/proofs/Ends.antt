@@ -1,8 +1,8 @@
--- What sound tables say, in the words of `specs/Demand3.antt`: filled cells are truth by walks, and so is the verdict of finish,
--- which on every table that passes questions 9 and 10 is 0 or 1. Truth does not mention the cutting. Assumes nothing.
+-- What sound tables say, in the words of `specs/Demand3.antt`: filled cells are truth by walks, and so is the verdict of finish. Truth
+-- does not mention the cutting. Assumes nothing.
 use Prim.Native.Nat.{ℕ, _-_, _<_}
 use mathlib.Core.Path.{_≡_, sym, _∙_, subst₂}
-use mathlib.Core.List.{List}
+use mathlib.Core.List.{List, [], _∷_}
 use native.Mathlib.Omega.{arith}
 use lib.ListN.{length}
 use Rattle.law.proofs.Bool.{clash}
@@ -10,7 +10,7 @@ use Rattle.law.proofs.Bounded.{by-equal}
 use Rattle.job.specs.Layout.{Text}
 use Rattle.job.specs.Job.{Job, Structure, decode, size, depth}
 use Rattle.job.specs.declared.subformula.Subformula.{Subformula}
-use Rattle.job.specs.Answer.{accepted}
+use Rattle.job.specs.Answer.{Answer, accepted}
 use Rattle.job.specs.Questions.{Accepted}
 use Rattle.job.specs.Written.{IsJob}
 use Rattle.job.proofs.Exact.{decode-is-job}
@@ -20,15 +20,19 @@ use Rattle.ctl.proofs.Truth.{holds-sat}
 use Rattle.cells.specs.Table.{Table, cell}
 use Rattle.cells.specs.Finish as finishing
 use Rattle.cells.specs.Calls.{told, answer, finish}
-use Rattle.demands.specs.Demand3.{IsTruth, CellsTrue, Finishes, FinishTrue, OneMachine}
+use Rattle.demands.specs.Contracts.{Lent, Happens}
+use Rattle.demands.specs.Demand2.{IsTruth}
+use Rattle.demands.specs.Demand3.{Happened, lastTable, Meant, FreshFor, ListOfCalls, leftBy, AsDefined, CellsTrue, Finishes, OneMoreFinish, OneMachine}
 use Rattle.cells.proofs.Tells.{Tells}
-use Rattle.cells.proofs.Formed.{Formed, cell-low}
+use Rattle.cells.proofs.Formed.{cell-low}
 use Rattle.cells.proofs.Sound.{truth, Sound}
 use Rattle.cells.proofs.Determined.{Filled}
 use Rattle.cells.proofs.Exhausted.{cell-one}
 use Rattle.cells.proofs.Finish.{finish-rounds}
 use Rattle.cells.proofs.Verdict.{first-state, verdict-filled, verdict-tells}
-use Rattle.demands.proofs.Calls.{accepted-taken, taken-told, taken-accepted, finish-asked, finish-taken}
+use Rattle.demands.proofs.Contracts.{happens-defined}
+use Rattle.demands.proofs.Calls.{taken-told, finish-taken}
+use Rattle.demands.proofs.Invariant.{happened-defined, fresh-accepted, run-sound}
 
 module _ (x : Text) (is : Accepted x) where
   abbrev J : Job
@@ -44,6 +48,7 @@ module _ (x : Text) (is : Accepted x) where
       let (to, from) = holds-sat (J .structure) (total-job J job) (J .formula) k s state in
       let b = truth J k s in
       record {
+        known = low;
         one = (λ e. from (tells .inside e), λ h. cell-one c b low tells (to h));
         zero = (
           (λ e h. clash b (to h) (tells .outside e)),
@@ -57,56 +62,71 @@ module _ (x : Text) (is : Accepted x) where
       let low = cell-low J t (sound .formed) n s k in
       filled-truth k s c state (omega arith) (sound .tells n s k node state subformula)
 
-  pub formed-finishes : (t : Table) → Formed J t → Finishes x t
+  pub sound-finishes : (t : Table) → Sound J t → Finishes x t (answer finish x t)
   unfolding told
-  formed-finishes t formed =
+  sound-finishes t sound =
       let done = finishing.finish J t in
       record {
         verdict = finishing.verdict J (done .table);
         rounds = done .rounds;
         cells = done .cells;
-        told = taken-told finish x t (finish-taken x t is formed);
-        low = verdict-filled J job t formed;
+        told = taken-told finish x t (finish-taken x t is (sound .formed));
+        truth =
+            filled-truth (depth J - 1) 0 (finishing.verdict J (done .table)) (first-state J job)
+            (verdict-filled J job t (sound .formed))
+            (verdict-tells J job t sound);
         few = finish-rounds J t;
       }
 
-  pub sound-finish : (t : Table) → Sound J t → FinishTrue x t
-  unfolding formed-finishes
-  sound-finish t sound =
-      record {
-        ends = formed-finishes t (sound .formed);
-        truth =
-            filled-truth (depth J - 1) 0 (finishing.verdict J (finishing.finish J t .table)) (first-state J job)
-            (verdict-filled J job t (sound .formed))
-            (verdict-tells J job t sound);
-      }
+  -- "one more finish", by its contract
+  pub sound-finish : (t : Table) → Sound J t → OneMoreFinish x t
+  sound-finish t sound l a u happens = rw (happens-defined l x finish t a u happens .0) (sound-finishes t sound)
 
--- The questions of finish are 1 to 10.
-pub accepted-finishes : (x : Text) (t : Table) (own : List ℕ) → answer finish x t ≡ accepted own → Finishes x t
-accepted-finishes x t own e =
-    let taken = accepted-taken finish x t own e in
-    formed-finishes x (taken-accepted finish x t taken) t (finish-asked x t taken)
+-- After a list of calls on a fresh table.
+module _ (x : Text) (calls : ListOfCalls x) where
+  abbrev is : Accepted x
+  is = fresh-accepted x (calls .start) (calls .fresh-start)
 
--- One machine and rule have one truth at the first state, so two finishes that give it have one verdict.
-pub same-verdict :
-    (x y : Text)
-    → OneMachine x y
-    → (t u : Table)
-    → FinishTrue x t
-    → FinishTrue y u
-    → (a : Finishes x t)
-    → (b : Finishes y u)
-    → a .verdict ≡ b .verdict
-unfolding depth
-same-verdict x y same t u left right a b =
-    let v = left .ends .verdict in
-    let w = right .ends .verdict in
-    let whole : Structure → List Subformula → Type 0 = λ M f. Holds M f (length f - 1) 0 in
-    let equal : v ≡ w =
-    by-equal v 1
-    (λ e. e ∙ sym (right .truth .one .1 (subst₂ whole (same .structure) (same .formula) (left .truth .one .0 e))))
-    (λ n.
-    let zero : v ≡ 0 = omega arith in
-    let no = left .truth .zero .0 zero in
-    zero ∙ sym (right .truth .zero .1 (λ h. no (subst₂ whole (sym (same .structure)) (sym (same .formula)) h)))) in
-    cc (left .ends .told, right .ends .told, a .told, b .told)
+  left-sound : Sound (decode x) (leftBy calls)
+  left-sound = run-sound x (calls .start) (calls .fresh-start) (calls .events) (calls .happened) (calls .meant)
+
+  pub calls-defined : AsDefined (calls .start) (calls .events)
+  calls-defined = happened-defined (calls .events) (calls .start) (calls .happened)
+
+  pub calls-cells : CellsTrue x (leftBy calls)
+  calls-cells = sound-cells x is (leftBy calls) left-sound
+
+  pub calls-finish : OneMoreFinish x (leftBy calls)
+  calls-finish = sound-finish x is (leftBy calls) left-sound
+
+pub fresh-finish : (x : Text) (t : Table) → FreshFor x t → OneMoreFinish x t
+unfolding Happened Meant lastTable
+fresh-finish x t new = calls-finish x (record { start = t; fresh-start = new; events = []; happened = tt; meant = tt })
+
+-- One machine and rule have one truth at the first state, so two finishes that answer it have one verdict.
+module _ (x y : Text) (same : OneMachine x y) where
+  same-truth : (t u : Table) (a b : Answer) (f : Finishes x t a) (g : Finishes y u b) → f .verdict ≡ g .verdict
+  unfolding depth
+  same-truth t u a b f g =
+      let v = f .verdict in
+      let whole : Structure → List Subformula → Type 0 = λ M f. Holds M f (length f - 1) 0 in
+      let there = subst₂ whole (same .structure) (same .formula) in
+      let back = subst₂ whole (sym (same .structure)) (sym (same .formula)) in
+      by-equal v 1
+      (λ one. one ∙ sym (g .truth .one .1 (there (f .truth .one .0 one))))
+      (λ other.
+      let zero : v ≡ 0 = omega (arith, f .truth .known) in
+      zero ∙ sym (g .truth .zero .1 (λ h. f .truth .zero .0 zero (back h))))
+
+  pub same-verdict :
+      (calls : ListOfCalls x) (others : ListOfCalls y)
+      → (l m : Lent) (v w : ℕ) (more rest : List ℕ) (t u : Table)
+      → Happens l x finish (leftBy calls) (accepted (v ∷ more)) t
+      → Happens m y finish (leftBy others) (accepted (w ∷ rest)) u
+      → v ≡ w
+  same-verdict calls others l m v w more rest t u one two =
+      let f = calls-finish x calls l (accepted (v ∷ more)) t one in
+      let g = calls-finish y others m (accepted (w ∷ rest)) u two in
+      let here : v ≡ f .verdict = cc (f .told) in
+      let there : w ≡ g .verdict = cc (g .told) in
+      here ∙ same-truth (leftBy calls) (leftBy others) _ _ f g ∙ sym there

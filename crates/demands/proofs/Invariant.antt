@@ -1,25 +1,26 @@
 -- What every call of a list of demand 3 keeps: the table is sound, and each message handed out so far is true. Truth does not
 -- mention the table, so a message stays true however late, often or overtaken it comes. Assumes nothing.
 use Prim.Native.Nat.{ℕ}
-use mathlib.Core.Path.{_≡_, refl, sym, subst}
+use mathlib.Core.Path.{_≡_, refl, sym, _∙_, subst}
 use mathlib.Core.List.{List, [], _∷_, _++_, List·Memᴰ, List·Memᴰ·not-nil, List·Memᴰ·append-cases, List·Memᴰ·eq-of-singleton}
 use mathlib.Core.Logic.{⊎-elim}
 use mathlib.Core.Option as opt
 use Rattle.job.specs.Layout.{Text}
 use Rattle.job.specs.Job.{Job, decode}
-use Rattle.job.specs.Answer.{Answer, accepted}
+use Rattle.job.specs.Answer.{accepted, refused}
 use Rattle.job.specs.Questions.{Accepted}
 use Rattle.job.specs.Written.{IsJob}
 use Rattle.job.proofs.Exact.{decode-is-job}
 use Rattle.cells.specs.Table.{Table}
 use Rattle.cells.specs.Calls.{Call, fresh, step, offer, accept, look, close, finish, refusal, told, left, answer, after}
-use Rattle.demands.specs.Demand3.{Made, Message, run, handedOut, Allowed, isRefused, isMeant, Meant, FreshFor, answerTo, tableAfter}
+use Rattle.demands.specs.Demand3.{Event, Happened, lastTable, Message, handedOut, Allowed, isRefused, isMeant, Meant, FreshFor, AsDefined}
 use Rattle.cells.proofs.Tells.{Tells}
 use Rattle.cells.proofs.Sound.{truth, Sound, freshTable-sound, ownerCell-tells, stepTable-sound, acceptTable-sound}
 use Rattle.cells.proofs.Settled.{settled-is}
 use Rattle.cells.proofs.Close.{closeTable-sound}
 use Rattle.cells.proofs.Verdict.{finish-sound}
-use Rattle.demands.proofs.Calls.{refused-stays, accepted-taken, by-refusal, taken-told, taken-left, fresh-asked, step-asked, offer-asked, accept-asked, close-asked}
+use Rattle.demands.proofs.Contracts.{happens-defined}
+use Rattle.demands.proofs.Calls.{refused-stays, accepted-taken, by-refusal, taken-told, taken-left, taken-accepted, fresh-asked, step-asked, offer-asked, accept-asked, close-asked}
 
 abbrev MessageTrue : Job → Message → Type 0
 MessageTrue J m = Tells 1 (m .value) (truth J (m .subformula) (m .state))
@@ -76,10 +77,9 @@ module _ (x : Text) (is : Accepted x) where
     abbrev Kept : Call → Text → Type 0
     Kept c y = Invariant J (handedOut (answer c y t) c ++ out) (after c y t)
 
-    refused-keeps : (c : Made) (number line others : ℕ) → answerTo c t ≡ Answer.refused number line others → Kept (c .call) (c .text)
+    refused-keeps : (c : Call) (y : Text) (number line others : ℕ) → answer c y t ≡ refused number line others → Kept c y
     unfolding handedOut
-    refused-keeps c number line others e =
-        rw (refused-stays (c .call) (c .text) t number line others e, e) before
+    refused-keeps c y number line others e = rw (refused-stays c y t number line others e, e) before
 
     taken-keeps :
         (c : Call)
@@ -98,27 +98,53 @@ module _ (x : Text) (is : Accepted x) where
               (List·Memᴰ·append-cases (handedOut (accepted (told c J t)) c) h);
         })
 
-    allowed-keeps : (c : Made) → Allowed x out t c → Kept (c .call) (c .text)
-    allowed-keeps c (isRefused number line others e) = refused-keeps c number line others e
-    allowed-keeps c (isMeant same message) =
-        rw same
-        (by-refusal (c .call) x t (refused-keeps (record { text = x; call = c .call })) (λ taken. taken-keeps (c .call) taken message))
+    allowed-keeps : (e : Event) → e .told ≡ answer (e .call) (e .text) t → Allowed x out e → Kept (e .call) (e .text)
+    allowed-keeps e is (isRefused number line others told-is) =
+        refused-keeps (e .call) (e .text) number line others (sym is ∙ told-is)
+    allowed-keeps e is (isMeant same message) =
+        rw same (by-refusal (e .call) x t (refused-keeps (e .call) x) (λ taken. taken-keeps (e .call) taken message))
 
-  meant-sound : (calls : List Made) (out : List Message) (t : Table) → Invariant J out t → Meant x out t calls → Sound J (run calls t)
-  unfolding run Meant
-  meant-sound [] out t before meant = before .sound
-  meant-sound (c ∷ calls) out t before (allowed, meant) =
-      meant-sound calls (handedOut (answerTo c t) (c .call) ++ out) (tableAfter c t) (allowed-keeps out t before c allowed) meant
+  meant-sound :
+      (es : List Event) (out : List Message) (t : Table)
+      → Invariant J out t
+      → AsDefined t es
+      → Meant x out es
+      → Sound J (lastTable t es)
+  unfolding lastTable AsDefined Meant
+  meant-sound [] out t before defined meant = before .sound
+  meant-sound (e ∷ es) out t before (told-is, left-is, defined) (allowed, meant) =
+      meant-sound es (handedOut (e .told) (e .call) ++ out) (e .left)
+      (rw (told-is, left-is) (allowed-keeps out t before e told-is allowed)) defined meant
 
-  -- A fresh table has no filled cell, and nothing is handed out yet.
-  pub run-sound : (start : Table) → FreshFor x start → (calls : List Made) → Meant x [] start calls → Sound J (run calls start)
+-- Calls that happened did what is defined.
+pub happened-defined : (es : List Event) (t : Table) → Happened t es → AsDefined t es
+unfolding Happened AsDefined
+happened-defined [] t happened = tt
+happened-defined (e ∷ es) t (now, later) =
+    let (told-is, left-is) = happens-defined (e .lent) (e .text) (e .call) t (e .told) (e .left) now in
+    (told-is, left-is, happened-defined es (e .left) later)
+
+-- A table fresh for a text: the text is accepted, and the table is of its length, with no filled cell.
+module _ (x : Text) (t : Table) (new : FreshFor x t) where
+  fresh-taken : refusal fresh x (new .before) ≡ opt.none
+  fresh-taken =
+      accepted-taken fresh x (new .before) [] (sym (happens-defined (new .lent) x fresh (new .before) (accepted []) t (new .made) .0))
+
+  pub fresh-accepted : Accepted x
+  fresh-accepted = taken-accepted fresh x (new .before) fresh-taken
+
+  fresh-sound : Sound (decode x) t
   unfolding left
-  run-sound start new calls =
-      let taken = accepted-taken fresh x (new .before) [] (new .told) in
-      meant-sound calls [] start
-      (record {
-        sound =
-            rw (new .left, taken-left fresh x (new .before) taken)
-            (freshTable-sound J (new .before) (fresh-asked x (new .before) taken));
-        true-out = λ m h. absurd (List·Memᴰ·not-nil h);
-      })
+  fresh-sound =
+      rw (
+        happens-defined (new .lent) x fresh (new .before) (accepted []) t (new .made) .1,
+        taken-left fresh x (new .before) fresh-taken,
+      )
+      (freshTable-sound (decode x) (new .before) (fresh-asked x (new .before) fresh-taken))
+
+  -- Nothing is handed out yet.
+  pub run-sound : (es : List Event) → Happened t es → Meant x [] es → Sound (decode x) (lastTable t es)
+  run-sound es happened =
+      meant-sound x fresh-accepted es [] t
+      (record { sound = fresh-sound; true-out = λ m h. absurd (List·Memᴰ·not-nil h) })
+      (happened-defined es t happened)

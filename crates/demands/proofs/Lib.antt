@@ -1,5 +1,10 @@
+pub mod Proved
+pub mod Contracts
 pub mod Calls
+pub mod Reading
+pub mod Filled
 pub mod Invariant
 pub mod Ends
-pub mod Demand3
-pub mod Example
+pub mod Judged
+pub mod Meet
+pub mod Demands

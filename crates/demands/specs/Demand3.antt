@@ -1,34 +1,37 @@
--- Demand 3, what it says. A list of calls is made on one table that is fresh for a job; after it every filled cell is the truth on
--- the uncut structure, and one more finish gives the truth of the whole formula at state 0, whatever the cutting. Answers and
--- tables are those of `cells/specs/Calls.antt`, truth is that of `ctl/specs/Truth.antt`; `proofs/Demand3.antt` proves it.
+-- Demand 3: "Whatever list of calls is made from a fresh table, refused ones and late, repeated, overtaken messages included: each call
+-- fills and answers as defined, every filled cell is the CTL truth, and one more finish answers the truth at state 0 within (empty
+-- cells + 1) rounds. So two cuttings of one job always agree." The words of it that `proofs/Demands.antt` uses. What happens in a call is
+-- said by its function's contract (`Contracts.antt`), what is defined by `cells/specs/Calls.antt`, truth by `ctl/specs/Truth.antt`.
 -- Assumes nothing.
 use Prim.Native.Nat.{ℕ, _+_, _-_, _<_, _≤_}
 use mathlib.Core.Path.{_≡_}
 use mathlib.Core.List.{List, [], _∷_, _++_, List·Memᴰ}
-use mathlib.Core.Logic.{_↔_}
 use lib.ListN.{getD}
 use Rattle.job.specs.Layout.{Text}
 use Rattle.job.specs.Job.{decode, size, depth}
 use Rattle.job.specs.Answer.{Answer, accepted, refused}
-use Rattle.ctl.specs.Truth.{Holds}
 use Rattle.cells.specs.Table.{Table, cell, emptyCells}
 use Rattle.cells.specs.Calls.{Call, fresh, step, offer, accept, look, close, finish, answer, after}
+use Rattle.demands.specs.Contracts.{Lent, Happens}
+use Rattle.demands.specs.Demand2.{IsTruth}
 
--- A call as it was made: the text passed, and which call with which numbers. Any text, any numbers.
-pub record Made : Type 0 where
+-- A call that was made: what it was lent and passed, what it answered, and the table that it left. Any text, any numbers.
+pub record Event : Type 0 where
+  pub lent : Lent
   pub text : Text
   pub call : Call
+  pub told : Answer
+  pub left : Table
 
-abbrev pub answerTo : Made → Table → Answer
-answerTo c t = answer (c .call) (c .text) t
+-- The calls were made one after the other: "every call of the list is lent that one table", and each came to what its contract promises.
+unfoldable pub Happened : Table → List Event → Type 0
+Happened t [] = Unit {0}
+Happened t (e ∷ es) = Happens (e .lent) (e .text) (e .call) t (e .told) (e .left) × Happened (e .left) es
 
-abbrev pub tableAfter : Made → Table → Table
-tableAfter c t = after (c .call) (c .text) t
-
--- "Every call of the list is lent that one table": the table after them all.
-unfoldable pub run : List Made → Table → Table
-run [] t = t
-run (c ∷ cs) t = run cs (tableAfter c t)
+-- The table after them all.
+unfoldable pub lastTable : Table → List Event → Table
+lastTable t [] = t
+lastTable t (e ∷ es) = lastTable (e .left) es
 
 -- "a message (state, subformula, value)"
 pub record Message : Type 0 where
@@ -50,35 +53,44 @@ handedOut (accepted told) finish = []
 
 -- What a call of the list may be, where the messages `out` were handed out earlier in it: "a refused call may have been passed
 -- any text and numbers"; any other was passed the job's text and, if it is an accept, a message of those.
-pub data Allowed (x : Text) (out : List Message) (t : Table) (c : Made) : Type 0 where
-  isRefused : (number line others : ℕ) → answerTo c t ≡ refused number line others → Allowed x out t c
+pub data Allowed (x : Text) (out : List Message) (e : Event) : Type 0 where
+  isRefused : (number line others : ℕ) → e .told ≡ refused number line others → Allowed x out e
   isMeant :
-      c .text ≡ x
-      → ((n s k v : ℕ) → c .call ≡ accept n s k v → List·Memᴰ (record { state = s; subformula = k; value = v }) out)
-      → Allowed x out t c
+      e .text ≡ x
+      → ((n s k v : ℕ) → e .call ≡ accept n s k v → List·Memᴰ (record { state = s; subformula = k; value = v }) out)
+      → Allowed x out e
 
--- The lists that demand 3 is about: each call, on the table that the calls before it left, is such a call. Messages may come
--- late, again, or overtake each other.
-unfoldable pub Meant : Text → List Message → Table → List Made → Type 0
-Meant x out t [] = Unit {0}
-Meant x out t (c ∷ cs) = Allowed x out t c × Meant x (handedOut (answerTo c t) (c .call) ++ out) (tableAfter c t) cs
+-- The lists that demand 3 is about: each call is such a call. Messages may come late, again, or overtake each other.
+unfoldable pub Meant : Text → List Message → List Event → Type 0
+Meant x out [] = Unit {0}
+Meant x out (e ∷ es) = Allowed x out e × Meant x (handedOut (e .told) (e .call) ++ out) es
 
--- "A table fresh for J is what an accepted fresh leaves for J's text", on a table of any content.
+-- "A table fresh for J is what an accepted fresh leaves for J's text."
 pub record FreshFor (x : Text) (t : Table) : Type 0 where
+  pub lent : Lent
+  -- a table of any content
   pub before : Table
-  pub told : answer fresh x before ≡ accepted []
-  pub left : t ≡ after fresh x before
+  pub made : Happens lent x fresh before (accepted []) t
 
--- Subformula k is true at state s of the uncut structure of the job of text x.
-abbrev pub TrueAt : Text → ℕ → ℕ → Type 0
-TrueAt x k s = Holds (decode x .structure) (decode x .formula) k s
+-- A "list of calls made from a fresh table", and the table that it left.
+pub record ListOfCalls (x : Text) : Type 0 where
+  -- the fresh table
+  pub start : Table
+  pub fresh-start : FreshFor x start
+  pub events : List Event
+  pub happened : Happened start events
+  pub meant : Meant x [] events
 
--- c is that truth: 1 exactly where it is true, 0 exactly where it is not.
-pub record IsTruth (x : Text) (k s c : ℕ) : Type 0 where
-  pub one : (c ≡ 1) ↔ TrueAt x k s
-  pub zero : (c ≡ 0) ↔ (TrueAt x k s → ⊥)
+abbrev pub leftBy : {x : Text} → ListOfCalls x → Table
+leftBy calls = lastTable (calls .start) (calls .events)
 
--- Every filled cell is the truth.
+-- "each call fills and answers as defined"
+unfoldable pub AsDefined : Table → List Event → Type 0
+AsDefined t [] = Unit {0}
+AsDefined t (e ∷ es) =
+    (e .told ≡ answer (e .call) (e .text) t) × (e .left ≡ after (e .call) (e .text) t) × AsDefined (e .left) es
+
+-- "every filled cell is the CTL truth"
 abbrev pub CellsTrue : Text → Table → Type 0
 CellsTrue x t =
     (n s k : ℕ)
@@ -88,21 +100,21 @@ CellsTrue x t =
     → (cell (decode x) t n s k ≡ 2 → ⊥)
     → IsTruth x k s (cell (decode x) t n s k)
 
--- One more finish is accepted, its verdict is 0 or 1, and its rounds are at most the empty cells before it and one.
-pub record Finishes (x : Text) (t : Table) : Type 0 where
+-- A finish on table t that answers a "answers the truth at state 0", of the whole formula, K − 1, "within (empty cells + 1) rounds".
+pub record Finishes (x : Text) (t : Table) (a : Answer) : Type 0 where
   pub verdict : ℕ
   pub rounds : ℕ
   pub cells : ℕ
-  pub told : answer finish x t ≡ accepted (verdict ∷ rounds ∷ cells ∷ [])
-  pub low : verdict ≤ 1
+  pub told : a ≡ accepted (verdict ∷ rounds ∷ cells ∷ [])
+  pub truth : IsTruth x (depth (decode x) - 1) 0 verdict
   pub few : rounds ≤ emptyCells (decode x) t + 1
 
--- Its verdict is the truth of the whole formula, K − 1, at the first state, 0.
-pub record FinishTrue (x : Text) (t : Table) : Type 0 where
-  pub ends : Finishes x t
-  pub truth : IsTruth x (depth (decode x) - 1) 0 (ends .verdict)
+-- "one more finish": whatever it comes to by its contract
+abbrev pub OneMoreFinish : Text → Table → Type 0
+OneMoreFinish x t = (l : Lent) (a : Answer) (u : Table) → Happens l x finish t a u → Finishes x t a
 
--- Two texts of one machine and rule: they may differ in nodes and owners only.
+-- Two texts of one machine and rule.
 pub record OneMachine (x y : Text) : Type 0 where
+  -- they may differ in nodes and owners only
   pub structure : decode x .structure ≡ decode y .structure
   pub formula : decode x .formula ≡ decode y .formula

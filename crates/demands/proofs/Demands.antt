@@ -1,0 +1,99 @@
+-- The demands, sentence by sentence and in their words, each proved by citing what did the work. What a call comes to is said by its function's
+-- contract: `Happens l x c t a u`, the call c with text x on table t answers a and leaves u. The words are those of `specs/`. Assumes nothing.
+use Prim.Native.Nat.{ℕ}
+use mathlib.Core.Path.{_≡_}
+use mathlib.Core.List.{List, [], _∷_}
+use mathlib.Core.Logic.{_↔_}
+use Rattle.job.specs.Layout.{Text}
+use Rattle.job.specs.Job.{Job, decode}
+use Rattle.job.specs.Answer.{Answer, accepted, refused}
+use Rattle.job.specs.Questions.{Accepted}
+use Rattle.job.specs.Read.{lineOf}
+use Rattle.cells.specs.Table.{Table}
+use Rattle.cells.specs.SetRule.{SetRule}
+use Rattle.cells.specs.Calls.{Call, step, finish, answer, after}
+use Rattle.cells.specs.Cases.{bytes, jobV, job2, job3}
+use Rattle.demands.specs.Contracts.{Lent, Happens, Reads, HandsBack, Prints}
+use Rattle.demands.specs.Demand1.{AsksNothing, Proved, ReadsOrRefuses, ReadsOrRefusesText}
+use Rattle.demands.specs.Demand2.{Accepts, JobText, FilledByRules, SmallestAndLargest, Judged}
+use Rattle.demands.specs.Demand3.{FreshFor, ListOfCalls, leftBy, AsDefined, CellsTrue, OneMoreFinish, OneMachine}
+use Rattle.demands.proofs.Proved.{asks-nothing, proved}
+use Rattle.demands.proofs.Contracts.{defined-happens, back-defined}
+use Rattle.demands.proofs.Calls.{happens-first, happens-stays}
+use Rattle.demands.proofs.Reading.{reads-first, reads-exact}
+use Rattle.demands.proofs.Filled.{happens-filled, sets-are}
+use Rattle.demands.proofs.Ends.{calls-defined, calls-cells, calls-finish, fresh-finish, same-verdict}
+use Rattle.demands.proofs.Judged.{prints-judged}
+use Rattle.demands.proofs.Meet.{fresh-for, one-machine, example}
+
+-- Demand 1. "Any bytes and any numbers:
+pub any-bytes-and-any-numbers : AsksNothing
+any-bytes-and-any-numbers = asks-nothing
+
+-- every call reads or refuses under the number of the first check that fails,
+module _ (l : Lent) (x : Text) where
+  pub reads-or-refuses : (c : Call) (t u : Table) (a : Answer) → Happens l x c t a u → ReadsOrRefuses c x t a
+  reads-or-refuses = happens-first l x
+
+  pub read-reads-or-refuses : (a : Answer) → Reads l x a → ReadsOrRefusesText x a
+  read-reads-or-refuses = reads-first x l
+
+  pub line-hands-back : (n : ℕ) (part : List ℕ) → HandsBack l x n part → part ≡ lineOf x n
+  line-hands-back = back-defined l x
+
+  -- a refused call changes no byte of the table,
+  pub refused-changes-nothing :
+      (c : Call) (t u : Table) (number line others : ℕ) → Happens l x c t (refused number line others) u → u ≡ t
+  refused-changes-nothing = happens-stays l x
+
+-- every call ends."
+pub every-call-ends : {M : Type 1} → Proved M
+every-call-ends = proved
+
+-- Demand 2. "Reading accepts exactly the job layout;
+pub reading-is-exact : (l : Lent) (x : Text) (a : Answer) → Reads l x a → Accepts a ↔ JobText x
+reading-is-exact l x = reads-exact x l
+
+-- a step fills exactly the cells that the rules fill;
+pub step-fills-by-the-rules :
+    (l : Lent) (x : Text) (n : ℕ) (t u : Table) (own : List ℕ) → Happens l x (step n) t (accepted own) u → FilledByRules (decode x) n t own u
+step-fills-by-the-rules = happens-filled
+
+pub sets-of-the-rules : (J : Job) (n : ℕ) (own : ℕ → ℕ) (R : SetRule) → SmallestAndLargest J n own R
+sets-of-the-rules = sets-are
+
+-- the verdict from a fresh table is yes exactly when the formula is true at state 0 by CTL on the uncut structure, over walks."
+pub verdict-from-fresh : (x : Text) (t : Table) → FreshFor x t → OneMoreFinish x t
+verdict-from-fresh = fresh-finish
+
+pub printed-is-truth : (l : Lent) (x : Text) (said : List ℕ) → Prints l x said → Judged x said
+printed-is-truth l x = prints-judged x l
+
+-- Demand 3. "Whatever list of calls is made from a fresh table, refused ones and late, repeated, overtaken messages included: each call fills
+-- and answers as defined, every filled cell is the CTL truth, and one more finish answers the truth at state 0 within (empty cells + 1) rounds.
+pub demand-3 :
+    (x : Text) (calls : ListOfCalls x)
+    → AsDefined (calls .start) (calls .events) × CellsTrue x (leftBy calls) × OneMoreFinish x (leftBy calls)
+demand-3 x calls = (calls-defined x calls, calls-cells x calls, calls-finish x calls)
+
+-- So two cuttings of one job always agree."
+pub cuttings-agree :
+    (x y : Text) (same : OneMachine x y) (calls : ListOfCalls x) (others : ListOfCalls y)
+    → (l m : Lent) (v w : ℕ) (more rest : List ℕ) (t u : Table)
+    → Happens l x finish (leftBy calls) (accepted (v ∷ more)) t
+    → Happens m y finish (leftBy others) (accepted (w ∷ rest)) u
+    → v ≡ w
+cuttings-agree = same-verdict
+
+-- What is supposed here can be had: what is defined may happen, a table fresh for a text, two cuttings of one machine, a list with messages.
+pub defined-may-happen : (l : Lent) (x : Text) (c : Call) (t : Table) → Happens l x c t (answer c x t) (after c x t)
+defined-may-happen = defined-happens
+
+pub fresh-tables : (x : Text) → Accepted x → (t : Table) × FreshFor x t
+fresh-tables x is = (_, fresh-for x is)
+
+pub two-cuttings : OneMachine (bytes jobV) (bytes job3)
+two-cuttings = one-machine
+
+pub calls-with-messages : ListOfCalls (bytes job2)
+calls-with-messages = example
