@@ -12,6 +12,7 @@ use Rattle.job.specs.Job.{decode}
 use Rattle.job.specs.Answer.{Answer, accepted, refused}
 use Rattle.job.specs.Read.{readTold, readAnswer, unless, lineOf as partOf, header}
 use Rattle.job.specs.Questions as text
+use Rattle.job.specs.declared.reader.Header as head
 use Rattle.job.specs.declared.reader.Refusal.{Refusal}
 use Rattle.job.specs.declared.reader.Reading as reading
 use Rattle.cells.specs.Table.{Table, ownerCell, filled, emptyCells}
@@ -27,7 +28,9 @@ use Rattle.calls.specs.declared.step.Stepped as stepped
 use Rattle.calls.specs.declared.offer.Offered as offered
 use Rattle.calls.specs.declared.accept.Delivered as delivered
 use Rattle.calls.specs.declared.look.Looked as looked
+use Rattle.calls.specs.declared.close.Closing as closing
 use Rattle.calls.specs.declared.close.Closed as closed
+use Rattle.calls.specs.declared.finish.Outcome as outcome
 use Rattle.calls.specs.declared.finish.Finished as finished
 use Rattle.judge.specs.Judged.{verdictLine}
 use Rattle.demands.specs.Contracts.{Lent, Happens, Reads, HandsBack, Prints}
@@ -61,7 +64,8 @@ module _ (l : Lent) (x : Text) where
 
     offer-case : (s k : ℕ) (r : Option Question) → (z : offered.Offered) × (offerTold z ≡ answerUnless r (offer s k) x t)
     unfolding offerTold answerUnless told width
-    offer-case s k opt.none = (offered.the-variants.Accepted (record { state = s; subformula = k; value = ownerCell (decode x) t s k }), refl)
+    offer-case s k opt.none =
+        (offered.the-variants.Accepted (record { state = s; subformula = k; value = ownerCell (decode x) t s k }), refl)
     offer-case s k (opt.some q) = (offered.the-variants.Refused (by q), refl)
 
     accept-case : (n s k v : ℕ) (r : Option Question) → (z : delivered.Delivered) × (acceptTold z ≡ answerUnless r (accept n s k v) x t)
@@ -76,7 +80,9 @@ module _ (l : Lent) (x : Text) where
 
     close-case : (r : Option Question) → (z : closed.Closed) × (closeTold z ≡ answerUnless r close x t)
     unfolding closeTold answerUnless told width
-    close-case opt.none = (closed.the-variants.Accepted (record { subformula = smallestOpen (decode x) t; filled = filled t (closeTable (decode x) t) }), refl)
+    close-case opt.none =
+        let own : closing.Closing = record { subformula = smallestOpen (decode x) t; filled = filled t (closeTable (decode x) t) } in
+        (closed.the-variants.Accepted own, refl)
     close-case (opt.some q) = (closed.the-variants.Refused (by q), refl)
 
     finish-case :
@@ -86,11 +92,9 @@ module _ (l : Lent) (x : Text) where
         × (finishRounds z ≤ emptyCells (decode x) t + 1)
     unfolding finishTold finishRounds answerUnless told width
     finish-case opt.none =
-        let done = finishing.finish (decode x) t in (
-          finished.the-variants.Accepted (record { verdict = finishing.verdict (decode x) (done .table); rounds = done .rounds; cells = done .cells }),
-          refl,
-          finish-rounds (decode x) t,
-        )
+        let done = finishing.finish (decode x) t in
+        let own : outcome.Outcome = record { verdict = finishing.verdict (decode x) (done .table); rounds = done .rounds; cells = done .cells } in
+        (finished.the-variants.Accepted own, refl, finish-rounds (decode x) t)
     finish-case (opt.some q) = (finished.the-variants.Refused (by q), refl, omega arith)
 
     -- offer and look leave the table
@@ -109,10 +113,14 @@ module _ (l : Lent) (x : Text) where
   defined-happens fresh t = let (z, is) = fresh-case t (refusal fresh x t) in (z, is, (is, refl))
   defined-happens (step n) t = let (z, is) = step-case t n (refusal (step n) x t) in (z, is, (is, refl))
   defined-happens (offer s k) t =
-      let (z, is) = offer-case t s k (refusal (offer s k) x t) in (z, is, offer-stays t s k (refusal (offer s k) x t), (is, sym (offer-stays t s k (refusal (offer s k) x t))))
+      let r = refusal (offer s k) x t in
+      let (z, is) = offer-case t s k r in
+      (z, is, offer-stays t s k r, (is, sym (offer-stays t s k r)))
   defined-happens (accept n s k v) t = let (z, is) = accept-case t n s k v (refusal (accept n s k v) x t) in (z, is, (is, refl))
   defined-happens (look n s k) t =
-      let (z, is) = look-case t n s k (refusal (look n s k) x t) in (z, is, look-stays t n s k (refusal (look n s k) x t), (is, sym (look-stays t n s k (refusal (look n s k) x t))))
+      let r = refusal (look n s k) x t in
+      let (z, is) = look-case t n s k r in
+      (z, is, look-stays t n s k r, (is, sym (look-stays t n s k r)))
   defined-happens close t = let (z, is) = close-case t (refusal close x t) in (z, is, (is, refl))
   defined-happens finish t = let (z, is, few) = finish-case t (refusal finish x t) in (z, is, (is, (refl, few)))
 
@@ -127,7 +135,9 @@ module _ (l : Lent) (x : Text) where
     where
       by-refusal : (r : Option text.Question) → (z : reading.Reading) × (readTold z ≡ unless x r (header x))
       by-refusal opt.none =
-          (reading.the-variants.Accepted (record { states = layout.states x; edges = layout.edges x; subformulas = layout.subformulas x; nodes = layout.nodes x }), refl)
+          let own : head.Header =
+          record { states = layout.states x; edges = layout.edges x; subformulas = layout.subformulas x; nodes = layout.nodes x } in
+          (reading.the-variants.Accepted own, refl)
       by-refusal (opt.some q) =
           (reading.the-variants.Refused (record { number = text.numberOf q; line = text.noLine (text.asked q x) }), refl)
 

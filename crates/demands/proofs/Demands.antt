@@ -24,7 +24,7 @@ use Rattle.demands.proofs.Reading.{reads-first, reads-exact}
 use Rattle.demands.proofs.Filled.{happens-filled, sets-are}
 use Rattle.demands.proofs.Ends.{calls-defined, calls-cells, calls-finish, fresh-finish, same-verdict}
 use Rattle.demands.proofs.Judged.{prints-judged}
-use Rattle.demands.proofs.Meet.{fresh-for, one-machine, example}
+use Rattle.demands.proofs.Hypotheses.{fresh-for, one-machine, example}
 
 -- Demand 1. "Any bytes and any numbers:
 pub any-bytes-and-any-numbers : AsksNothing

@@ -6,5 +6,5 @@ pub mod Filled
 pub mod Invariant
 pub mod Ends
 pub mod Judged
-pub mod Meet
+pub mod Hypotheses
 pub mod Demands

@@ -1,2 +1,2 @@
-// What document 01 demands of any run of calls: every filled cell is the truth, a close fills only what is false, and finish ends
-// with a verdict. It has laws about the definitions of cells, and no code.
+// The demands as theorems, above the calls and the line that the program prints: `proofs/Demands.antt` is the one page of statements, in the
+// words of `specs/`. What happens in a call is said there by its function's contract, so the theorems are about the functions. No code.

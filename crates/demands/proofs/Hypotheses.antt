@@ -3,12 +3,12 @@
 -- it, accepts it again, and node 1 and an empty text are refused. Assumes nothing.
 use Prim.Native.Nat.{ℕ}
 use mathlib.Core.Path.{_≡_, refl, sym, subst}
-use mathlib.Core.List.{List, [], _∷_, List·Memᴰ, List·Memᴰ·head}
+use mathlib.Core.List.{List, [], _∷_, map, List·Memᴰ, List·Memᴰ·head}
 use native.Mathlib.Omega.{arith}
 use lib.ListN.{length-replicate}
 use Rattle.job.specs.Layout.{Text}
 use Rattle.job.specs.Job.{decode}
-use Rattle.job.specs.Answer.{Answer, accepted, refused}
+use Rattle.job.specs.Answer.{accepted, refused}
 use Rattle.job.specs.Questions.{Accepted}
 use Rattle.job.specs.Read.{readAnswer, unless, header}
 use Rattle.cells.specs.Table.{Table, tableLength}
@@ -112,6 +112,13 @@ events-meant = (
     ),
   ),
 )
+
+-- what the calls answered
+pub events-told :
+    map (λ e. e .told) events
+    ≡ accepted (5 ∷ []) ∷ accepted (1 ∷ 2 ∷ 1 ∷ []) ∷ accepted (1 ∷ []) ∷ accepted (0 ∷ []) ∷ refused 16 0 1 ∷ refused 1 1 2 ∷ []
+unfolding printed calls of-job start events played
+events-told = refl
 
 pub example : ListOfCalls (bytes job2)
 unfolding events
