@@ -24,7 +24,7 @@ use Rattle.cells.specs.Calls.{Call, fresh, step, offer, accept, close, finish, 
 use Rattle.demands.specs.Contracts.{Lent, Happens}
 use Rattle.demands.specs.Demand1.{ReadsOrRefuses, reads, refuses}
 use Rattle.cells.proofs.CallLaws.{refusal-text, refusal-own}
-use Rattle.cells.proofs.Formed.{Formed, formed-is, is-formed}
+use Rattle.cells.proofs.Formed.{Formed, is-formed}
 use Rattle.demands.proofs.Contracts.{happens-defined}
 
 module _ (c : Call) (x : Text) (t : Table) where
@@ -118,11 +118,6 @@ module _ (x : Text) (t : Table) where
     taken-asked close x t taken 2 (omega arith),
     ltb-true (close.smallestOpen (decode x) t) (depth (decode x)) (taken-asked close x t taken 3 (omega arith)),
   )
-
-  pub finish-asked : refusal finish x t ≡ opt.none → Formed (decode x) t
-  unfolding ownQuestions passes
-  finish-asked taken =
-      formed-is (decode x) t (taken-asked finish x t taken 0 (omega arith)) (taken-asked finish x t taken 1 (omega arith))
 
   -- Finish puts no other question, so it is accepted on every table that passes 9 and 10.
   pub finish-taken : text.Accepted x → Formed (decode x) t → refusal finish x t ≡ opt.none

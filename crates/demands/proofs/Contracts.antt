@@ -6,6 +6,7 @@ use mathlib.Core.List.{List, [], _∷_}
 use mathlib.Core.Option.{Option}
 use mathlib.Core.Option as opt
 use native.Mathlib.Omega.{arith}
+use denote.Ref.{at-last}
 use Rattle.job.specs.Layout.{Text}
 use Rattle.job.specs.Layout as layout
 use Rattle.job.specs.Job.{decode}
@@ -33,7 +34,7 @@ use Rattle.calls.specs.declared.close.Closed as closed
 use Rattle.calls.specs.declared.finish.Outcome as outcome
 use Rattle.calls.specs.declared.finish.Finished as finished
 use Rattle.judge.specs.Judged.{verdictLine}
-use Rattle.demands.specs.Contracts.{Lent, Happens, Reads, HandsBack, Prints}
+use Rattle.demands.specs.Contracts.{Lent, Happens, Reads, HandsBack, Prints, MayHappen}
 
 module _ (l : Lent) (x : Text) where
   pub happens-defined : (c : Call) (t : Table) (a : Answer) (u : Table) → Happens l x c t a u → (a ≡ answer c x t) × (u ≡ after c x t)
@@ -108,7 +109,7 @@ module _ (l : Lent) (x : Text) where
     look-stays n s k opt.none = refl
     look-stays n s k (opt.some q) = refl
 
-  pub defined-happens : (c : Call) (t : Table) → Happens l x c t (answer c x t) (after c x t)
+  defined-happens : (c : Call) (t : Table) → Happens l x c t (answer c x t) (after c x t)
   unfolding Happens answer after
   defined-happens fresh t = let (z, is) = fresh-case t (refusal fresh x t) in (z, is, (is, refl))
   defined-happens (step n) t = let (z, is) = step-case t n (refusal (step n) x t) in (z, is, (is, refl))
@@ -129,7 +130,7 @@ module _ (l : Lent) (x : Text) where
   unfolding Reads
   reads-defined a (r, is, told) = sym is ∙ told
 
-  pub defined-reads : Reads l x (readAnswer x)
+  defined-reads : Reads l x (readAnswer x)
   unfolding Reads readAnswer readTold unless header
   defined-reads = let (z, is) = by-refusal (text.refusal x) in (z, is, is)
     where
@@ -148,3 +149,13 @@ module _ (l : Lent) (x : Text) where
   pub prints-defined : (said : List ℕ) → Prints l x said → said ≡ verdictLine x
   unfolding Prints
   prints-defined said told = told
+
+  pub may-happen : MayHappen l x
+  unfolding HandsBack Prints
+  may-happen =
+      record {
+        call = defined-happens;
+        read = defined-reads;
+        line = λ n. (at-last (l .text) (partOf x n), refl, refl);
+        verdict = refl;
+      }

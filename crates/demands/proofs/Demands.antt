@@ -11,14 +11,14 @@ use Rattle.job.specs.Questions.{Accepted}
 use Rattle.job.specs.Read.{lineOf}
 use Rattle.cells.specs.Table.{Table}
 use Rattle.cells.specs.SetRule.{SetRule}
-use Rattle.cells.specs.Calls.{Call, step, finish, answer, after}
+use Rattle.cells.specs.Calls.{Call, step, finish}
 use Rattle.cells.specs.Cases.{bytes, jobV, job2, job3}
-use Rattle.demands.specs.Contracts.{Lent, Happens, Reads, HandsBack, Prints}
+use Rattle.demands.specs.Contracts.{Lent, Happens, Reads, HandsBack, Prints, MayHappen}
 use Rattle.demands.specs.Demand1.{AsksNothing, Proved, ReadsOrRefuses, ReadsOrRefusesText}
 use Rattle.demands.specs.Demand2.{Accepts, JobText, FilledByRules, SmallestAndLargest, Judged}
 use Rattle.demands.specs.Demand3.{FreshFor, ListOfCalls, leftBy, AsDefined, CellsTrue, OneMoreFinish, OneMachine}
 use Rattle.demands.proofs.Proved.{asks-nothing, proved}
-use Rattle.demands.proofs.Contracts.{defined-happens, back-defined}
+use Rattle.demands.proofs.Contracts.{back-defined, may-happen}
 use Rattle.demands.proofs.Calls.{happens-first, happens-stays}
 use Rattle.demands.proofs.Reading.{reads-first, reads-exact}
 use Rattle.demands.proofs.Filled.{happens-filled, sets-are}
@@ -86,8 +86,8 @@ pub cuttings-agree :
 cuttings-agree = same-verdict
 
 -- What is supposed here can be had: what is defined may happen, a table fresh for a text, two cuttings of one machine, a list with messages.
-pub defined-may-happen : (l : Lent) (x : Text) (c : Call) (t : Table) → Happens l x c t (answer c x t) (after c x t)
-defined-may-happen = defined-happens
+pub defined-may-happen : (l : Lent) (x : Text) → MayHappen l x
+defined-may-happen = may-happen
 
 pub fresh-tables : (x : Text) → Accepted x → (t : Table) × FreshFor x t
 fresh-tables x is = (_, fresh-for x is)

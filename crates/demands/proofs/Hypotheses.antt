@@ -18,7 +18,7 @@ use Rattle.cells.proofs.CallLaws.{fresh-accepted}
 use Rattle.cells.proofs.Printed.{printed}
 use Rattle.demands.specs.Contracts.{Lent, Happens}
 use Rattle.demands.specs.Demand3.{Event, Happened, Message, handedOut, isRefused, isMeant, Meant, FreshFor, ListOfCalls, OneMachine}
-use Rattle.demands.proofs.Contracts.{defined-happens}
+use Rattle.demands.proofs.Contracts.{may-happen}
 
 -- some references
 abbrev pub lent : Lent
@@ -44,7 +44,7 @@ pub played-happened : (cs : List Made) (t : Table) → Happened t (played cs t)
 unfolding played Happened
 played-happened [] t = tt
 played-happened (c ∷ cs) t =
-    (defined-happens lent (c .text) (c .call) t, played-happened cs (after (c .call) (c .text) t))
+    (may-happen lent (c .text) .call (c .call) t, played-happened cs (after (c .call) (c .text) t))
 
 pub fresh-for : (x : Text) → Accepted x → FreshFor x (after fresh x (zeros x))
 unfolding zeros readAnswer unless Accepted
@@ -54,7 +54,7 @@ fresh-for x is =
     record {
       lent = lent;
       before = zeros x;
-      made = subst (λ a. Happens lent x fresh (zeros x) a (after fresh x (zeros x))) (sym told) (defined-happens lent x fresh (zeros x));
+      made = subst (λ a. Happens lent x fresh (zeros x) a (after fresh x (zeros x))) (sym told) (may-happen lent x .call fresh (zeros x));
     }
 
 -- C1 and C3: V with two nodes and with one

@@ -8,10 +8,10 @@ use contract.Lifetimes.{Lfts}
 use denote.Ref.{RefT, at-last}
 use Rattle.job.specs.Layout.{Text}
 use Rattle.job.specs.Answer.{Answer}
-use Rattle.job.specs.Read.{readTold}
+use Rattle.job.specs.Read.{readTold, readAnswer, lineOf}
 use Rattle.job.specs.declared.reader.Reading.{Reading}
 use Rattle.cells.specs.Table.{Table}
-use Rattle.cells.specs.Calls.{Call, fresh, step, offer, accept, look, close, finish}
+use Rattle.cells.specs.Calls.{Call, fresh, step, offer, accept, look, close, finish, answer, after}
 use Rattle.cells.specs.Told.{freshTold}
 use Rattle.cells.specs.declared.fresh.Cleared.{Cleared}
 use Rattle.calls.specs.Told.{stepTold, offerTold, acceptTold, lookTold, closeTold, finishTold}
@@ -22,6 +22,7 @@ use Rattle.calls.specs.declared.accept.Delivered.{Delivered}
 use Rattle.calls.specs.declared.look.Looked.{Looked}
 use Rattle.calls.specs.declared.close.Closed.{Closed}
 use Rattle.calls.specs.declared.finish.Finished.{Finished}
+use Rattle.judge.specs.Judged.{verdictLine}
 use Rattle.job.proofs.reader.read.Reads as reading
 use Rattle.job.proofs.layout.line.Reads as lining
 use Rattle.cells.proofs.fresh.fresh.Reads as clearing
@@ -92,3 +93,10 @@ module _ (l : Lent) (x : Text) where
 
   unfoldable pub Prints : List ℕ → Type 0
   Prints said = judging.Learnt (l .lifetimes .0, tt) (text, tt) said (text, tt)
+
+-- Whatever is lent, what is defined may happen.
+pub record MayHappen (l : Lent) (x : Text) : Type 0 where
+  pub call : (c : Call) (t : Table) → Happens l x c t (answer c x t) (after c x t)
+  pub read : Reads l x (readAnswer x)
+  pub line : (n : ℕ) → HandsBack l x n (lineOf x n)
+  pub verdict : Prints l x (verdictLine x)
