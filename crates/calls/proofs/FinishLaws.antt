@@ -10,7 +10,6 @@ use borrow.Author.Tests.{eq-eqb, ne-eqb, lt-ltb, le-ltb}
 use lib.ListN.{length, getD}
 use lib.Dec.{eqb}
 use Rattle.law.proofs.Bool.{and-intro, and-no-right, cond-true, cond-false}
-use Rattle.law.proofs.Bounded.{by-equal}
 use Rattle.law.proofs.Count.{count-le}
 use Rattle.job.specs.Job.{Job, depth}
 use Rattle.job.specs.declared.subformula.Subformula.{Subformula}
@@ -19,8 +18,8 @@ use Rattle.cells.specs.Step.{stepTable}
 use Rattle.cells.specs.Close.{copyTable, settled, smallestOpen, someOpen, closeTable}
 use Rattle.cells.specs.Finish.{stepsUpTo, exchange, closing, round, roundThen, finish, verdict}
 use Rattle.cells.specs.Calls.{Call, told}
-use Rattle.cells.proofs.Grown.{Grown, stepTable-grown, stepsUpTo-grown, copyTable-grown, exchange-grown, round-grown}
-use Rattle.cells.proofs.Counts.{filled-same, filled-sum, filled-none, filled-empties}
+use Rattle.cells.proofs.Grown.{Grown, stepTable-grown, stepsUpTo-grown, copyTable-grown, exchange-grown}
+use Rattle.cells.proofs.Counts.{filled-same, filled-sum, filled-none}
 use Rattle.cells.proofs.Formed.{Formed, stepTable-formed, copyTable-formed, round-formed, finish-formed}
 use Rattle.cells.proofs.Rounds.{exchange-idle}
 use Rattle.cells.proofs.Finish.{finish-rounds, finish-cells, finish-last, finish-more, finish-some}

@@ -81,10 +81,6 @@ module _ (J : Job) (new : ℕ → ℕ → ℕ → ℕ) (t : Table) where
   fill-cell n s k b c =
       fill-at (index J n s k) ∙ simp (nodeOf-index J n s k b c, stateOf-index J n s k b c, subformulaOf-index J n s k c)
 
-  pub fill-cell-filled : (n s k : ℕ) → (cell J t n s k ≡ 2 → ⊥) → cell J (fill J new t) n s k ≡ cell J t n s k
-  unfolding cell
-  fill-cell-filled n s k = fill-filled (index J n s k)
-
   pub fill-cell-outside :
       (n s k : ℕ) → s < size J → k < depth J → inFragment J n s ≡ false → cell J (fill J new t) n s k ≡ cell J t n s k
   fill-cell-outside n s k b c o =

@@ -10,9 +10,9 @@ use Rattle.job.specs.Job.{Job, depth}
 use Rattle.cells.specs.Table.{Table, index, cell, inside, fill}
 use Rattle.cells.specs.Step.{stepColumn, stepUpTo, stepTable}
 use Rattle.cells.specs.Close.{acceptTable, copyTable, closeTable}
-use Rattle.cells.specs.Finish.{stepsUpTo, exchange, closing, round, roundsFrom, finish}
+use Rattle.cells.specs.Finish.{stepsUpTo, exchange, round, finish}
 use Rattle.cells.proofs.Fill.{fill-length, fill-filled, fill-outside}
-use Rattle.cells.proofs.Kept.{Parts, stepUpTo-keeps, stepTable-keeps, stepsUpTo-keeps, exchange-keeps, closing-keeps, round-keeps, roundsFrom-keeps, finish-keeps}
+use Rattle.cells.proofs.Kept.{Parts, stepUpTo-keeps, stepTable-keeps, stepsUpTo-keeps, exchange-keeps, round-keeps, finish-keeps}
 
 module _ (J : Job) where
   pub record Grown (t u : Table) : Type 0 where
@@ -41,10 +41,6 @@ module _ (J : Job) where
   -- An empty cell was empty before.
   pub grown-empty : (t u : Table) → Grown t u → (i : ℕ) → getD u i 0 ≡ 2 → getD t i 0 ≡ 2
   grown-empty t u g i e = by-equal (getD t i 0) 2 (λ h. h) (λ n. sym (g .kept i n) ∙ e)
-
-  pub grown-cell : (t u : Table) → Grown t u → (n s k : ℕ) → (cell J t n s k ≡ 2 → ⊥) → cell J u n s k ≡ cell J t n s k
-  unfolding cell
-  grown-cell t u g n s k = g .kept (index J n s k)
 
   pub grown-cell-empty : (t u : Table) → Grown t u → (n s k : ℕ) → cell J u n s k ≡ 2 → cell J t n s k ≡ 2
   unfolding cell
@@ -93,14 +89,8 @@ module _ (J : Job) where
   pub exchange-grown : (t : Table) → Grown t (exchange J t)
   exchange-grown = exchange-keeps J Grown grown-parts
 
-  pub closing-grown : (t : Table) → Grown t (closing J t)
-  closing-grown = closing-keeps J Grown grown-parts
-
   pub round-grown : (t : Table) → Grown t (round J t)
   round-grown = round-keeps J Grown grown-parts
-
-  pub roundsFrom-grown : (n : ℕ) (t : Table) → Grown t (roundsFrom J n t .table)
-  roundsFrom-grown = roundsFrom-keeps J Grown grown-parts
 
   pub finish-grown : (t : Table) → Grown t (finish J t .table)
   finish-grown = finish-keeps J Grown grown-parts

@@ -14,18 +14,17 @@ use Rattle.law.specs.Fixpoint.{member}
 use Rattle.law.proofs.Bool.{split, and-intro, and-left, and-right, or-left, or-right, or-cases, clash}
 use Rattle.law.proofs.Bounded.{by-order, by-equal, all-intro, all-elim}
 use Rattle.law.proofs.Lists.{tab-length, tab-at}
-use Rattle.job.specs.Job.{Job, Quantifier, forAll, exists, dual, over, size, depth, owner, atom, subformula}
+use Rattle.job.specs.Job.{Job, Quantifier, forAll, exists, dual, over, size, owner, atom, subformula}
 use Rattle.job.specs.declared.subformula.Subformula.{Subformula}
 use Rattle.job.specs.declared.subformula.Subformula.the-variants.{Atom, Not, And, Ax, Ex, Au, Eu}
-use Rattle.cells.specs.Fragment.{inFragment, inner, border}
-use Rattle.cells.specs.Table.{Table, tableLength, index, nodeOf, stateOf, subformulaOf, cell, ownerCell, isEmpty, inside, cellsRight, freshTable, fill}
+use Rattle.cells.specs.Fragment.{inner, border}
+use Rattle.cells.specs.Table.{Table, index, nodeOf, stateOf, subformulaOf, cell, ownerCell, isEmpty, inside, cellsRight, freshTable, fill}
 use Rattle.cells.specs.SetRule.{SetRule, smallest, largest, bySets}
 use Rattle.cells.specs.Step.{opposite, both, next, untilRule, column, stepColumn, stepTable}
 use Rattle.cells.specs.Close.{isTemporal, acceptTable, copyTable, smallestOpen, closeTable}
-use Rattle.cells.specs.Finish.{stepsUpTo, exchange, closing, round, roundsFrom, finish}
-use Rattle.cells.proofs.Index.{index-lt, nodeOf-index, stateOf-index}
+use Rattle.cells.specs.Finish.{round, finish}
 use Rattle.cells.proofs.Fill.{empty-is, is-empty, fill-length, fill-filled, fill-outside, fill-new}
-use Rattle.cells.proofs.Kept.{Parts, stepTable-keeps, stepsUpTo-keeps, exchange-keeps, closing-keeps, round-keeps, roundsFrom-keeps, finish-keeps}
+use Rattle.cells.proofs.Kept.{Parts, stepTable-keeps, round-keeps, finish-keeps}
 
 -- Question 10 as facts about bytes, and about cells.
 pub record Right (J : Job) (t : Table) : Type 0 where
@@ -65,20 +64,6 @@ module _ (J : Job) (t : Table) where
   pub right-cell-small : Right J t → (n s k : ℕ) → cell J t n s k ≤ 2
   unfolding cell
   right-cell-small r n s k = r .small (index J n s k)
-
-  pub right-cell-outside :
-      Right J t
-      → length t ≡ tableLength J
-      → (n s k : ℕ)
-      → n < J .nodes
-      → s < size J
-      → k < depth J
-      → inFragment J n s ≡ false
-      → cell J t n s k ≡ 2
-  unfolding cell inside
-  right-cell-outside r long n s k a b c o =
-      r .outside (index J n s k) (omega (arith, index-lt J n s k a b c))
-      (simp (nodeOf-index J n s k b c, stateOf-index J n s k b c) o)
 
 pub fresh-right : (J : Job) (t : Table) → Right J (freshTable t)
 unfolding freshTable
@@ -210,20 +195,8 @@ module _ (J : Job) where
         close = λ t a b. closeTable-right t;
       }
 
-  pub stepsUpTo-right : (n : ℕ) (t : Table) → n ≤ J .nodes → Right J t → Right J (stepsUpTo J n t)
-  stepsUpTo-right = stepsUpTo-keeps J KeepsRight right-parts
-
-  pub exchange-right : (t : Table) → Right J t → Right J (exchange J t)
-  exchange-right = exchange-keeps J KeepsRight right-parts
-
-  pub closing-right : (t : Table) → Right J t → Right J (closing J t)
-  closing-right = closing-keeps J KeepsRight right-parts
-
   pub round-right : (t : Table) → Right J t → Right J (round J t)
   round-right = round-keeps J KeepsRight right-parts
-
-  pub roundsFrom-right : (n : ℕ) (t : Table) → Right J t → Right J (roundsFrom J n t .table)
-  roundsFrom-right = roundsFrom-keeps J KeepsRight right-parts
 
   pub finish-right : (t : Table) → Right J t → Right J (finish J t .table)
   finish-right = finish-keeps J KeepsRight right-parts

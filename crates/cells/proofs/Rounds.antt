@@ -1,7 +1,7 @@
 -- A round on any table that passes questions 9 and 10, sound or not: one that fills nothing leaves no owner's cell empty, and
 -- every other fills one. Assumes nothing.
-use Prim.Native.Nat.{ℕ, zero, suc, _+_, _<_, _≤_}
-use mathlib.Core.Path.{_≡_, refl, sym, _∙_, ap, subst}
+use Prim.Native.Nat.{ℕ, zero, suc, _<_, _≤_}
+use mathlib.Core.Path.{_≡_, sym, _∙_, ap, subst}
 use mathlib.Core.Bool.{Bool, true, false, _&&_}
 use native.Mathlib.Nat.{le-refl, not-suc-le-zero}
 use native.Mathlib.Omega.{arith}
@@ -11,14 +11,14 @@ use Rattle.law.proofs.Bool.{split, clash, and-intro, cond-true, cond-false}
 use Rattle.law.proofs.Bounded.{below-suc, by-order, by-equal, first-before, any-no}
 use Rattle.job.specs.Job.{Job, size, depth, owner}
 use Rattle.job.specs.Written.{IsJob}
-use Rattle.cells.specs.Table.{Table, ownerCell, isEmpty, filled, emptyCells}
+use Rattle.cells.specs.Table.{Table, ownerCell, isEmpty, filled}
 use Rattle.cells.specs.Step.{stepTable}
 use Rattle.cells.specs.Close.{copyTable, settled, open?, smallestOpen, someOpen, closeTable}
-use Rattle.cells.specs.Finish.{stepsUpTo, exchange, closing, round, roundsFrom, finish}
+use Rattle.cells.specs.Finish.{stepsUpTo, exchange, closing, round}
 use Rattle.cells.proofs.Fill.{is-empty}
-use Rattle.cells.proofs.Grown.{Grown, grown-both, stepTable-grown, stepsUpTo-grown, copyTable-grown, exchange-grown, round-grown, roundsFrom-grown}
-use Rattle.cells.proofs.Counts.{filled-empties, filled-sum, filled-none}
-use Rattle.cells.proofs.Formed.{Formed, cell-low, round-formed}
+use Rattle.cells.proofs.Grown.{Grown, grown-both, stepTable-grown, stepsUpTo-grown, copyTable-grown, exchange-grown}
+use Rattle.cells.proofs.Counts.{filled-none}
+use Rattle.cells.proofs.Formed.{Formed, cell-low}
 use Rattle.cells.proofs.Settled.{settled-is, idle-settled}
 use Rattle.cells.proofs.Determined.{Filled}
 use Rattle.cells.proofs.Lower.{close-fills}

@@ -10,22 +10,14 @@ use native.Mathlib.Omega.{arith}
 use borrow.Author.Tests.{eqb-true, eq-eqb, not-true}
 use lib.Dec.{eqb}
 use Rattle.law.specs.Fixpoint.{Monotone, member, least, greatest}
-use Rattle.law.proofs.Bool.{split, clash, and-left, and-right, and-no-right, and-mono, or-right, or-cases, or-mono}
+use Rattle.law.proofs.Bool.{split, clash, and-left, and-right, and-mono, or-right, or-cases, or-mono}
 use Rattle.law.proofs.Least.{least-bound, least-closed, least-rule, least-inside}
 use Rattle.law.proofs.Greatest.{greatest-bound, greatest-supported, greatest-rule, greatest-holds}
 use Rattle.job.specs.Job.{Job, dual, over, size}
 use Rattle.job.proofs.Successors.{over-mono}
-use Rattle.cells.specs.Fragment.{inFragment, edgeOut, border, inner}
+use Rattle.cells.specs.Fragment.{border, inner}
 use Rattle.cells.specs.Table.{isEmpty}
 use Rattle.cells.specs.SetRule.{SetRule, joins, smallest, stays, largest}
-
--- The rules speak of inner states; a border state is none.
-pub border-not-inner : (J : Job) (n s : ℕ) → border J n s ≡ true → inner J n s ≡ false
-unfolding border inner
-border-not-inner J n s b =
-    let f = inFragment J n s in
-    let o = edgeOut J n s in
-    and-no-right f o (not-true o (and-right f (not o) b))
 
 module _ (J : Job) (n : ℕ) (own : ℕ → ℕ) (R : SetRule) where
   -- "the smallest set holding those already true, those with b true, and those with a true and all successors in the set": why

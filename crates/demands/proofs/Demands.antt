@@ -2,7 +2,7 @@
 -- contract: `Happens l x c t a u`, the call c with text x on table t answers a and leaves u. The words are those of `specs/`. Assumes nothing.
 use Prim.Native.Nat.{ℕ}
 use mathlib.Core.Path.{_≡_}
-use mathlib.Core.List.{List, [], _∷_}
+use mathlib.Core.List.{List, _∷_}
 use mathlib.Core.Logic.{_↔_}
 use Rattle.job.specs.Layout.{Text}
 use Rattle.job.specs.Job.{Job, decode}

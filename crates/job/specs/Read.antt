@@ -12,7 +12,6 @@ use Rattle.law.specs.Lists.{firstNo}
 use Rattle.job.specs.Layout.{Text, states, edges, subformulas, nodes, lines, fieldsOf, lineAt}
 use Rattle.job.specs.Questions.{Question, firstLine, ranges, textLength, numberOf, headQuestions, asked, noLine, passes, refusal}
 use Rattle.job.specs.Answer.{Answer, accepted, refused}
-use Rattle.job.specs.declared.reader.Header.{Header}
 use Rattle.job.specs.declared.reader.Refusal.{Refusal}
 use Rattle.job.specs.declared.reader.Reading.{Reading}
 use Rattle.job.specs.declared.reader.Reading.the-variants.{Accepted, Refused}

@@ -6,8 +6,8 @@ use mathlib.Core.Bool.{Bool, true, false, cond, false≢true}
 use native.Mathlib.Nat.{le-refl, not-suc-le-zero}
 use native.Mathlib.Omega.{arith}
 use Rattle.law.specs.Bounded.{count, Inside}
-use Rattle.law.proofs.Bool.{split, clash, same-test}
-use Rattle.law.proofs.Bounded.{by-order, below-suc}
+use Rattle.law.proofs.Bool.{split, clash}
+use Rattle.law.proofs.Bounded.{below-suc}
 
 -- what one number adds
 digit-mono : (a b : Bool) → (a ≡ true → b ≡ true) → cond {A = ℕ} a 1 0 ≤ cond b 1 0
@@ -39,13 +39,6 @@ module _ (p q : ℕ → Bool) where
       rw same
       (split (p n) (λ t. t)
       (λ f. let e′ = rw same at e in let stop : ⊥ = omega (arith, count-mono n before, simp (f, e′) at few) in absurd stop)))
-
-  pub count-grows : (n : ℕ) → Inside n p q → (i : ℕ) → i < n → p i ≡ false → q i ≡ true → count p n < count q n
-  count-grows n inside i l f e =
-      by-order (count p n) (count q n) (λ h. h) (λ few. clash (p i) (count-back n inside few i l e) f)
-
-  pub count-equal : (n : ℕ) → Inside n p q → count q n ≤ count p n → (i : ℕ) → i < n → p i ≡ q i
-  count-equal n inside few i l = same-test (p i) (q i) (inside i l) (count-back n inside few i l)
 
   pub count-same : (n : ℕ) → ((i : ℕ) → i < n → p i ≡ q i) → count p n ≡ count q n
   unfolding count

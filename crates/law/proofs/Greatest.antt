@@ -134,15 +134,3 @@ module _ (r : Rule) (n : ℕ) (mono : Monotone r) where
       (λ s e.
       others-intro n outside s (bound s e)
       (contrapose (outside s) (Z s) (least-inside (dual r n) n dual-monotone Z closed s) (others-without n Y s e)))
-
-  -- a supported set around it is it: what taking marks away ends with
-  pub greatest-unique :
-      (Y : ℕ → Bool)
-      → ((s : ℕ) → Y s ≡ true → s < n)
-      → Inside n (member (greatest r n)) Y
-      → Inside n Y (r Y)
-      → (s : ℕ)
-      → s < n
-      → Y s ≡ member (greatest r n) s
-  greatest-unique Y bound around supported s l =
-      same-test (Y s) (member (greatest r n) s) (greatest-holds Y bound supported s) (around s l)

@@ -6,7 +6,7 @@ use mathlib.Core.List.{List}
 use lib.ListN.{length, getD}
 use lib.Dec.{ltb, eqb}
 use Rattle.law.specs.Bounded.{count}
-use Rattle.job.specs.Job.{Job, Structure, Edge, size, depth, owner}
+use Rattle.job.specs.Job.{Job, Structure, size, depth, owner}
 use Rattle.job.specs.Written.{noEdge, edgeCount, label}
 use Rattle.machine.specs.declared.machine.Machine.{Machine}
 

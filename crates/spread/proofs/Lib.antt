@@ -5,4 +5,3 @@ pub mod Turn
 pub mod Walk
 pub mod Start
 pub mod Worklist
-pub mod Callers
