@@ -2,12 +2,17 @@
 
     compare.py CLONE [--seed N] [--count N] [--batch N]
 
-Draws random small cases, lets the model answer them, writes them as lists into
-CLONE/crates/cells/proofs/ (`RandomCases.antt`, and `Random.antt` with one
-proposition for each batch: what the definitions compute equals what the model
-said, by `refl`), and runs `rt dev cells` there.  A batch that is not proved is
-halved until the cases that differ are found.  CLONE is changed: give a clone
-of the repository, not the repository.
+Takes the cases of `trials.py` (the gate's, where no option says otherwise), lets
+the model answer them, writes them as lists into CLONE/crates/cells/proofs/
+(`RandomCases.antt`, and `Random.antt` with one proposition for several cases:
+what the definitions compute equals what the model said, by `refl`), and runs
+`rt dev cells` there.  A long finish is computed round by round, and the laws of
+`RandomRounds.antt` make its answer of the rounds.  A batch that is not proved is
+halved until the cases that differ are found.  CLONE is changed: give a clone of
+the repository, not the repository.
+
+The cases must show every answer of every call and notice every mutant of
+`mutants.py`; where they do not, the exit status is 1.
 
 The imports and the `unfolding` line are taken from the clone's `Printed.antt`,
 and the definitions that it does not name are added.
@@ -25,281 +30,16 @@ import subprocess
 import sys
 import time
 from dataclasses import dataclass
+from typing import Iterator
 
 import checker
-import damaged
-import generate
 import mutants
 import tables
-
-QUESTIONS = {
-    "fresh": [*range(1, 10)],
-    "step": [*range(1, 12)],
-    "offer": [*range(1, 11), 12, 13, 14],
-    "accept": [*range(1, 14), 15, 16, 17],
-    "look": [*range(1, 13), 18],
-    "close": [*range(1, 11), 19, 20],
-    "finish": [*range(1, 11)],
-}
-"""The questions that each call puts, in order."""
-
-
-@dataclass
-class Trial:
-    """A text, a table lent, calls on it in turn, and lines asked for."""
-
-    text: bytes
-    table: bytes
-    calls: list[tuple[str, tuple[int, ...]]]
-    lines: list[int]
-    note: str
-    lie: bool = False  # planted: the last answer is told wrongly
-
-    def made(self) -> list[tables.Call]:
-        """What the model says of each call."""
-        table, made = self.table, []
-        for name, numbers in self.calls:
-            made.append(tables.make(name, self.text, table, numbers))
-            table = made[-1].table
-        if self.lie:
-            made[-1].answer[-1] += 1
-        return made
-
+import trials
+from trials import Trial
 
 # --------------------------------------------------------------------------
-# Drawing cases
-# --------------------------------------------------------------------------
-
-STATES, FORMULAS, NODES = 4, 5, 3
-"""The sizes of the jobs: the definitions compute slowly."""
-
-
-def small(rng: random.Random) -> generate.Picture:
-    """A job of few states, nodes, subformulas and edges."""
-    if rng.randrange(3) == 0:
-        return generate.tangled(rng, STATES, FORMULAS, NODES)
-    states, formulas, nodes = (
-        max(rng.randint(1, most), rng.randint(1, most))
-        for most in (STATES, FORMULAS, NODES)
-    )
-    job = generate.picture(rng, states, formulas, nodes, exact=True)
-    if len(job.edges) > 7:
-        job.edges = generate.scattered(rng, len(job.owner), rng.randint(4, 7))
-    if rng.randrange(20) == 0:
-        job.nodes = 8
-    return job
-
-
-def some_lines(rng: random.Random, job: generate.Picture) -> list[int]:
-    """Line numbers, in and out of range."""
-    count = len(job.lines())
-    return [rng.choice([0, 1, count, count + 1, 65_536, rng.randint(1, count)])]
-
-
-def one_of_each(rng: random.Random, job: checker.Job) -> list[tuple[str, tuple[int, ...]]]:
-    """Every call once."""
-    return [(name, tables.any_numbers(rng, job, name)) for name in tables.NUMBERS]
-
-
-def damaged_trial(rng: random.Random) -> Trial:
-    """A text that is refused, and every call with it."""
-    job = small(rng)
-    parsed = checker.parse(job.text())
-    found = [d for d in damaged.damages(rng, job) if len(d.text) <= 500]
-    number = rng.choice(sorted({d.number for d in found}))
-    damage = rng.choice([d for d in found if d.number == number])
-    table = tables.good_table(rng, job.text())
-    return Trial(
-        damage.text,
-        table,
-        one_of_each(rng, parsed),
-        [damage.line, *some_lines(rng, job)],
-        f"damaged: {damage.name}",
-    )
-
-
-def damages_of_one(rng: random.Random) -> list[Trial]:
-    """Every damage of one job, each with one call."""
-    while True:
-        job = small(rng)
-        if len(job.owner) >= 3 and len(job.rules) >= 4 and len(job.edges) >= 4:
-            break
-    parsed = checker.parse(job.text())
-    table = tables.fresh_table(parsed)
-    return [
-        Trial(
-            damage.text,
-            table,
-            [rng.choice(one_of_each(rng, parsed))],
-            [damage.line, *some_lines(rng, job)],
-            f"each damage: {damage.name}",
-        )
-        for damage in damaged.damages(rng, job)
-        if len(damage.text) <= 500
-    ]
-
-
-def flipped_trial(rng: random.Random) -> Trial:
-    """A text with one bit turned over."""
-    job = small(rng)
-    parsed = checker.parse(job.text())
-    text = next(damaged.flips(rng, job.text(), 1))
-    calls = one_of_each(rng, parsed)
-    table = tables.good_table(rng, job.text())
-    return Trial(text, table, calls, some_lines(rng, job), "one bit flipped")
-
-
-def bad_table_trial(rng: random.Random) -> Trial:
-    """A table that is refused, and every call on it."""
-    job = small(rng)
-    text = job.text()
-    parsed = checker.parse(text)
-    wrong = rng.choice([tables.wrong_length_table, tables.bad_table])
-    calls = one_of_each(rng, parsed)
-    rng.shuffle(calls)
-    return Trial(text, wrong(rng, parsed), calls, some_lines(rng, job), wrong.__name__)
-
-
-def calls_trial(rng: random.Random) -> Trial:
-    """Any calls on any table that questions 9 and 10 let by."""
-    job = small(rng)
-    text = job.text()
-    table = tables.good_table(rng, text)
-    made = tables.any_calls(rng, text, table, rng.randint(2, 5))
-    calls = [(one.name, one.numbers) for one in made]
-    return Trial(text, table, calls, some_lines(rng, job), "any calls")
-
-
-def legal_trial(rng: random.Random) -> Trial:
-    """A list of calls as demand 3 has it, then finish."""
-    job = small(rng)
-    text = job.text()
-    table = tables.fresh_table(checker.parse(text))
-    made = tables.calls(rng, text, table, rng.randint(2, 6))
-    calls = [(one.name, one.numbers) for one in made]
-    calls.append(("finish", ()))
-    return Trial(text, table, calls, some_lines(rng, job), "legal list")
-
-
-def settled_trial(rng: random.Random) -> Trial:
-    """A settled table, wild ones too, and close, step and finish on it."""
-    while True:
-        job = small(rng)
-        text = job.text()
-        parsed = checker.parse(text)
-        table = tables.settled_table(text, tables.good_table(rng, text))
-        if checker.lowest_open(parsed, table) is not None or rng.randrange(200) == 0:
-            break
-    step = ("step", (rng.randrange(parsed.sizes.nodes),))
-    calls = [("close", ()), step, ("close", ()), ("finish", ())]
-    return Trial(text, table, calls, some_lines(rng, job), "settled")
-
-
-def gaps_trial(rng: random.Random) -> Trial:
-    """A full table with few cells emptied, most at border states; then close:
-    19 where the gap can be filled, else the gap is closed, 20 where none is."""
-    job = generate.tangled(rng, STATES, FORMULAS, NODES)
-    text = job.text()
-    parsed = checker.parse(text)
-    table = bytearray(checker.finish(text, tables.good_table(rng, text))[1])
-    for _ in range(rng.randrange(4)):
-        node = rng.randrange(parsed.sizes.nodes)
-        states = parsed.border[node] if rng.randrange(3) else parsed.owned[node]
-        if states:
-            formula = rng.randrange(parsed.sizes.formulas)
-            table[parsed.cell(node, rng.choice(states), formula)] = checker.EMPTY
-    return Trial(text, bytes(table), [("close", ()), ("finish", ())], [], "gaps")
-
-
-def wild_step_trial(rng: random.Random) -> Trial:
-    """Steps of every node on an inconsistent table."""
-    job = small(rng)
-    text = job.text()
-    parsed = checker.parse(text)
-    wild = rng.choice([tables.wild_table, tables.slanted_table, tables.open_table])
-    nodes = list(range(parsed.sizes.nodes))
-    rng.shuffle(nodes)
-    calls = [("step", (node,)) for node in nodes]
-    table = wild(rng, parsed)
-    return Trial(text, table, calls, some_lines(rng, job), f"steps, {wild.__name__}")
-
-
-def until_trial(rng: random.Random) -> Trial:
-    """A step for an until over any cells of a, b and its own.
-
-    Atom 0 holds nowhere, so AX 0 is false at owned states and, at the border
-    state that each of them leads to, empty; EX of it then stays as it is lent.
-    Those are a and b: the step may not fill them, and the sets are taken over
-    every mixture of empty, false and true cells.
-    """
-    states = rng.randint(3, STATES)
-    edges = {(s, states - 1) for s in range(states)}
-    edges |= set(generate.scattered(rng, states - 1, rng.randint(2, 5)))
-    rules = [(1, 0, 0), (4, 0, 0), (5, 1, 0), (5, 1, 0)]
-    rules.append((rng.choice([6, 7]), *rng.choice([(2, 3), (2, 3), (3, 2), (2, 2)])))
-    owner = [0] * (states - 1) + [1]
-    text = generate.Picture(2, owner, [0] * states, sorted(edges), rules).text()
-    job = checker.parse(text)
-    table = bytearray(tables.fresh_table(job))
-    likely = {
-        2: rng.choice([[0, 1, 2], [1, 1, 2], [0, 2, 2]]),
-        3: rng.choice([[0, 1, 2], [0, 0, 0, 1, 2], [0, 0, 2]]),
-        4: rng.choice([[0, 1, 2, 2], [0, 2], [1, 2, 2]]),
-    }
-    for s in range(states):
-        for k in likely:
-            table[job.cell(0, s, k)] = rng.choice(likely[k])
-    return Trial(text, bytes(table), [("step", (0,))], [], "until over any cells")
-
-
-KINDS_OF_TRIAL = (
-    [damaged_trial] * 3
-    + [flipped_trial]
-    + [bad_table_trial]
-    + [calls_trial] * 6
-    + [legal_trial] * 3
-    + [settled_trial] * 2
-    + [gaps_trial] * 2
-    + [wild_step_trial] * 3
-    + [until_trial] * 6
-)
-
-
-OFTEN = 4
-"""How often each call should give each of its numbers."""
-
-
-def trials(rng: random.Random, count: int) -> list[Trial]:
-    """`count` cases, the last of them drawn for answers that came too seldom."""
-    wanted = {(name, n): OFTEN for name in QUESTIONS for n in [0, *QUESTIONS[name]]}
-
-    def seen(trial: Trial) -> None:
-        for one in trial.made():
-            wanted[one.name, one.answer[0]] -= 1
-
-    drawn = damages_of_one(rng)
-    drawn = rng.sample(drawn, min(len(drawn), count // 2))
-    drawn += mutants.telling(rng, until_trial, 6)[: count // 4]
-    while len(drawn) < count * 9 // 10:
-        drawn.append(rng.choice(KINDS_OF_TRIAL)(rng))
-    for trial in drawn:
-        seen(trial)
-    for tried in range(100_000):
-        if len(drawn) == count:
-            break
-        trial = rng.choice(KINDS_OF_TRIAL)(rng)
-        missing = {what for what, times in wanted.items() if times > 0}
-        given = {(one.name, one.answer[0]) for one in trial.made()}
-        if given & missing or not missing or tried > 20_000:
-            drawn.append(trial)
-            seen(trial)
-    few = {what: OFTEN - times for what, times in wanted.items() if times > 0}
-    print(f"answers given fewer than {OFTEN} times: {few}")
-    return drawn
-
-
-# --------------------------------------------------------------------------
-# Writing them
+# Writing cases
 # --------------------------------------------------------------------------
 
 
@@ -320,22 +60,108 @@ def antt_text(text: bytes) -> str:
     return antt_numbers(text)
 
 
-def antt_trial(trial: Trial) -> str:
-    """A case with what the model says."""
-    made = trial.made()
-    calls = [" ".join(["call." + n, *map(str, numbers)]) for n, numbers in trial.calls]
-    parts = [antt_numbers(checker.line(trial.text, at)) for at in trial.lines]
+@dataclass
+class Part:
+    """Calls of a case in turn, with what the model said of each."""
+
+    text: bytes
+    start: bytes
+    made: list[tables.Call]
+    lines: list[int]
+
+    def cost(self) -> int:
+        """About what the prover takes for it."""
+        return sum(trials.call_cost(one) for one in self.made)
+
+
+@dataclass
+class LongFinish:
+    """An accepted finish, by its rounds."""
+
+    text: bytes
+    tables: list[bytes]  # before each round; the last round fills nothing
+    told: list[int]
+
+    def filled(self) -> list[int]:
+        """How many cells each round fills."""
+        pairs = zip(self.tables, self.tables[1:])
+        return [sum(map(int.__ne__, t, u)) for t, u in pairs] + [0]
+
+    def empty(self) -> int:
+        """The empty cells of the fragments before the first round."""
+        cells = tables.inside(checker.parse(self.text))
+        return sum(self.tables[0][cell] == checker.EMPTY for cell in cells)
+
+
+def before_rounds(text: bytes, table: bytes) -> list[bytes]:
+    """The tables before each round of finish."""
+    after = bytearray(table)
+    model = checker.Rounds(checker.parse(text), after)
+    found = [table]
+    while model.round() > 0:
+        found.append(bytes(after))
+    return found
+
+
+def parted(trial: Trial) -> tuple[list[Part], list[LongFinish]]:
+    """A case as parts that are not too dear, and its long finishes."""
+    parts, finishes = [Part(trial.text, trial.table, [], trial.lines)], []
+    table = trial.table
+    for one in trial.made():
+        if trials.is_long(one):
+            before = before_rounds(one.text, table)
+            finishes.append(LongFinish(one.text, before, one.answer[2:]))
+            parts.append(Part(one.text, one.table, [], []))
+        else:
+            if parts[-1].cost() + trials.call_cost(one) > TOGETHER:
+                parts.append(Part(one.text, table, [], []))
+            parts[-1].made.append(one)
+        table = one.table
+    return [part for part in parts if part.made or part.lines], finishes
+
+
+def grouped(parts: list[Part]) -> list[list[Part]]:
+    """The parts for each proposition."""
+    groups: list[list[Part]] = [[]]
+    for part in parts:
+        if groups[-1] and sum(one.cost() for one in [*groups[-1], part]) > TOGETHER:
+            groups.append([])
+        groups[-1].append(part)
+    return groups
+
+
+TOGETHER = 1_000_000
+"""The cost of one proposition: antt gives each 50,000,000 steps and no more,
+which are some four times as much."""
+
+
+def antt_part(part: Part) -> str:
+    """A part with what the model says."""
+    calls = [" ".join(["call." + one.name, *map(str, one.numbers)]) for one in part.made]
+    lines = [antt_numbers(checker.line(part.text, at)) for at in part.lines]
     return f"""record {{
-      text = {antt_text(trial.text)};
-      start = {antt_numbers(trial.table)};
+      text = {antt_text(part.text)};
+      start = {antt_numbers(part.start)};
       calls = {antt_list(calls)};
-      lines = {antt_numbers(trial.lines)};
-      reads = {antt_numbers(list(checker.read(trial.text)))};
-      parts = {antt_list(parts)};
-      told = {antt_list([antt_numbers(one.answer) for one in made])};
-      tables = {antt_list([antt_numbers(one.table) for one in made])};
+      lines = {antt_numbers(part.lines)};
+      reads = {antt_numbers(list(checker.read(part.text)))};
+      parts = {antt_list(lines)};
+      told = {antt_list([antt_numbers(one.answer) for one in part.made])};
+      tables = {antt_list([antt_numbers(one.table) for one in part.made])};
     }}
 """
+
+
+def antt_definition(name: str, sort: str, value: str) -> str:
+    """A definition that can be unfolded."""
+    return f"unfoldable pub {name} : {sort}\n{name} =\n    {value}\n"
+
+
+def antt_law(name: str, statement: str, proof: str, *unfolding: str) -> str:
+    """A proposition with its proof."""
+    names = dict.fromkeys(unfolding)
+    line = " ".join(names) + "\n" if names else ""
+    return f"\npub {name} : {statement}\n{line}{name} = {proof}"
 
 
 CASES_HEAD = """-- Written by compare.py: cases with the answers of the Python model.
@@ -370,7 +196,7 @@ recomputed c =
       start = c .start;
       calls = c .calls;
       lines = c .lines;
-      reads = numbers 4 (readAnswer (c .text));
+      reads = numbers (readAnswer (c .text));
       parts = map (lineOf (c .text)) (c .lines);
       told = answers (c .text) (c .start) (c .calls);
       tables = tablesAfter (c .text) (c .start) (c .calls);
@@ -378,8 +204,135 @@ recomputed c =
 """
 
 
-TOGETHER = 6
-"""The cases of one proposition: antt gives each so many steps and no more."""
+ROUNDS = """-- Written by compare.py: the answer of finish from its rounds.
+use Prim.Native.Nat.{ℕ, zero, suc, _+_}
+use mathlib.Core.Path.{_≡_, refl, _∙_, ap}
+use mathlib.Core.Bool.{false}
+use mathlib.Core.List.{[], _∷_}
+use mathlib.Core.Option as opt
+use lib.Dec.{eqb}
+use Rattle.job.specs.Layout.{Text}
+use Rattle.job.specs.Job.{decode}
+use Rattle.job.specs.Answer.{accepted}
+use Rattle.cells.specs.Table.{Table, filled, emptyCells}
+use Rattle.cells.specs.Finish.{Finished, round, roundsFrom, verdict}
+use Rattle.cells.specs.Finish as finishing
+use Rattle.cells.specs.Calls.{finish, refusal, answer, after, answerUnless, afterUnless, told, left}
+
+abbrev finished : Table → ℕ → ℕ → Finished
+finished t r c = record { table = t; rounds = r; cells = c }
+
+-- A round of t fills c cells and comes to u.
+abbrev pub IsRound : Text → Table → Table → ℕ → Type 0
+IsRound x t u c = (round (decode x) t ≡ u) × (filled t u ≡ c)
+
+-- At most n rounds, and one, of t: r rounds that fill c cells and come to u.
+abbrev pub Rounds : Text → ℕ → Table → Table → ℕ → ℕ → Type 0
+Rounds x n t u r c = roundsFrom (decode x) n t ≡ finished u r c
+
+-- What finish has to know besides.
+abbrev pub Asked : Text → Table → Table → ℕ → ℕ → Type 0
+Asked x t u n v = (refusal finish x t ≡ opt.none) × (emptyCells (decode x) t ≡ n) × (verdict (decode x) u ≡ v)
+
+abbrev pub Answer : Text → Table → Table → ℕ → ℕ → ℕ → Type 0
+Answer x t u v r c = (answer finish x t ≡ accepted (v ∷ r ∷ c ∷ [])) × (after finish x t ≡ u)
+
+module _ (x : Text) where
+  pub last-round : (n : ℕ) (t u : Table) → IsRound x t u 0 → Rounds x n t u 1 0
+  unfolding roundsFrom
+  last-round zero t u (e, none) = rw e (rw none refl)
+  last-round (suc n) t u (e, none) = rw e (rw none refl)
+
+  pub more-rounds :
+      (n : ℕ) (t u v : Table) (r c d : ℕ)
+      → IsRound x t u c
+      → eqb c 0 ≡ false
+      → Rounds x n u v r d
+      → Rounds x (suc n) t v (suc r) (c + d)
+  unfolding roundsFrom
+  more-rounds n t u v r c d (e, count) some later = rw e (rw count (rw some (rw later refl)))
+
+  pub finish-answer : (t u : Table) (n v r c : ℕ) → Asked x t u n v → Rounds x n t u r c → Answer x t u v r c
+  unfolding answer after answerUnless afterUnless told left finishing.finish
+  finish-answer t u n v r c (asked, empty, value) rounds =
+      let done : finishing.finish (decode x) t ≡ finished u r c = ap (λ m. roundsFrom (decode x) m t) empty ∙ rounds in
+      (ap (λ q. answerUnless q finish x t) asked
+      ∙ ap (λ F. accepted (verdict (decode x) (F .table) ∷ F .rounds ∷ F .cells ∷ [])) done
+      ∙ ap (λ w. accepted (w ∷ r ∷ c ∷ [])) value,
+      ap (λ q. afterUnless q finish x t) asked ∙ ap (λ F. F .table) done)
+"""
+
+
+ROUND_NAMES = "IsRound, Rounds, Asked, Answer, last-round, more-rounds, finish-answer"
+
+
+class WrittenFinish:
+    """A long finish in antt: definitions, and laws about them."""
+
+    def __init__(self, finish: LongFinish, name: str) -> None:
+        self.finish = finish
+        self.name = name
+        self.text = f"{name}-text"
+        self.tables = [f"{name}-table{i}" for i in range(len(finish.tables))]
+        self.last = self.tables[-1]
+
+    def definitions(self) -> dict[str, str]:
+        """What the rounds are about."""
+        text = antt_text(self.finish.text)
+        found = {self.text: antt_definition(self.text, "Text", text)}
+        for name, table in zip(self.tables, self.finish.tables):
+            found[name] = antt_definition(name, "Table", antt_numbers(table))
+        return found
+
+    def rounds(self, unfolding: str) -> Iterator[str]:
+        """Each round, computed."""
+        after = [*self.tables[1:], self.last]
+        for i, (t, u, filled) in enumerate(zip(self.tables, after, self.finish.filled())):
+            yield antt_law(
+                f"{self.name}-round{i}",
+                f"IsRound {self.text} {t} {u} {filled}",
+                "(refl, refl)",
+                unfolding,
+                self.text,
+                t,
+                u,
+            )
+
+    def sums(self) -> Iterator[str]:
+        """The rounds from each table on, from the last back."""
+        filled, fuel = self.finish.filled(), self.finish.empty()
+        for i in reversed(range(len(filled))):
+            t, more, here = self.tables[i], len(filled) - i - 1, f"{self.name}-round{i}"
+            proof = f"last-round {self.text} {fuel - i} {t} {t} {here}"
+            if more:
+                proof = (
+                    f"more-rounds {self.text} {fuel - i - 1} {t} {self.tables[i + 1]} "
+                    f"{self.last} {more} {filled[i]} {sum(filled[i + 1 :])} "
+                    f"{here} refl {self.name}-from{i + 1}"
+                )
+            statement = (
+                f"Rounds {self.text} {fuel - i} {t} {self.last} {more + 1} {sum(filled[i:])}"
+            )
+            yield antt_law(f"{self.name}-from{i}", statement, proof)
+
+    def answer(self, unfolding: str) -> Iterator[str]:
+        """The whole answer."""
+        verdict, rounds, cells = self.finish.told
+        ends = f"{self.text} {self.tables[0]} {self.last}"
+        fuel = self.finish.empty()
+        yield antt_law(
+            f"{self.name}-asked",
+            f"Asked {ends} {fuel} {verdict}",
+            "(refl, refl, refl)",
+            unfolding,
+            *ends.split(),
+        )
+        yield antt_law(
+            f"{self.name}-answer",
+            f"Answer {ends} {verdict} {rounds} {cells}",
+            f"finish-answer {ends} {fuel} {verdict} {rounds} {cells} "
+            f"{self.name}-asked {self.name}-from0",
+        )
 
 
 class Clone:
@@ -394,10 +347,11 @@ class Clone:
         self.unfold_the_rest()
         lib = self.proofs / "Lib.antt"
         mods = lib.read_text()
-        for name in ("RandomCases", "Random"):
+        for name in ("RandomCases", "RandomRounds", "Random"):
             if f"mod {name}\n" not in mods:
                 mods += f"pub mod {name}\n"
         lib.write_text(mods)
+        (self.proofs / "RandomRounds.antt").write_text(ROUNDS)
 
     def unfold_the_rest(self) -> None:
         """Import and unfold also the definitions that the printed cases do not
@@ -420,32 +374,42 @@ class Clone:
                     if alias not in unfolded:
                         self.unfolding += f" {alias}"
 
-    def write(self, batches: list[list[Trial]]) -> None:
+    def write(self, batch: list[Trial]) -> None:
         """The cases and the propositions about them."""
-        cases = [CASES_HEAD]
-        names = [f"batch{i}" for i in range(len(batches))]
-        for name, batch in zip(names, batches):
-            items = antt_list([antt_trial(trial) for trial in batch])
-            cases.append(f"unfoldable pub {name} : List Trial\n{name} =\n    {items}\n")
-        (self.proofs / "RandomCases.antt").write_text("\n".join(cases))
-        imports = ", ".join(["tablesAfter", "recomputed", *names])
-        laws = [
+        parts: list[Part] = []
+        finishes: list[LongFinish] = []
+        for trial in batch:
+            own, long = parted(trial)
+            parts += own
+            finishes += long
+        defined, laws = {}, []
+        for i, group in enumerate(grouped(parts)):
+            name, items = f"cases{i}", antt_list([antt_part(part) for part in group])
+            defined[name] = antt_definition(name, "List Trial", items)
+            statement = f"map recomputed {name} ≡ {name}"
+            unfolding = f"{self.unfolding} tablesAfter recomputed {name}"
+            laws.append(antt_law(f"proved-{name}", statement, "refl", unfolding))
+        for i, finish in enumerate(finishes):
+            written = WrittenFinish(finish, f"finish{i}")
+            defined.update(written.definitions())
+            laws += written.rounds(self.unfolding)
+            laws += written.sums()
+            laws += written.answer(self.unfolding)
+        cases = "\n".join([CASES_HEAD, *defined.values()])
+        (self.proofs / "RandomCases.antt").write_text(cases)
+        imports = ", ".join(["tablesAfter", "recomputed", *defined])
+        head = [
             "-- Written by compare.py: the definitions give what the model gave.",
             *self.uses,
             f"use Rattle.cells.proofs.RandomCases.{{{imports}}}",
+            f"use Rattle.cells.proofs.RandomRounds.{{{ROUND_NAMES}}}",
         ]
-        for name in names:
-            laws.append(
-                f"\npub proved-{name} : map recomputed {name} ≡ {name}\n"
-                f"{self.unfolding} tablesAfter recomputed {name}\n"
-                f"proved-{name} = refl"
-            )
-        (self.proofs / "Random.antt").write_text("\n".join(laws) + "\n")
+        (self.proofs / "Random.antt").write_text("\n".join([*head, *laws]) + "\n")
 
     def check(self, batch: list[Trial]) -> tuple[int, str]:
         """The exit status of `rt dev` with these cases (0: all proved, 1: some
         case differs, 3: no verdict, for too long), and what it printed."""
-        self.write([batch[i : i + TOGETHER] for i in range(0, len(batch), TOGETHER)])
+        self.write(batch)
         ran = subprocess.run(
             ["rt", "dev", "cells"],
             cwd=self.where,
@@ -472,40 +436,46 @@ class Clone:
 
 
 def describe(drawn: list[Trial]) -> None:
-    """What the cases cover."""
-    answers: collections.Counter[tuple[str, int]] = collections.Counter()
-    reads: collections.Counter[int] = collections.Counter()
+    """What the cases are."""
+    notes = collections.Counter(trial.note.split(":")[0] for trial in drawn)
     kinds: collections.Counter[int] = collections.Counter()
-    notes: collections.Counter[str] = collections.Counter()
+    answers: collections.Counter[str] = collections.Counter()
     for trial in drawn:
-        notes[trial.note.split(":")[0]] += 1
-        reads[checker.read(trial.text)[0]] += 1
         if checker.read(trial.text)[0] == 0:
             kinds.update({rule.kind for rule in checker.parse(trial.text).rules})
-        answers.update((one.name, one.answer[0]) for one in trial.made())
+        answers += trials.given(trial)
     print("cases:", dict(notes))
-    print("read:", {n: reads[n] for n in sorted(reads)})
     print("jobs with each kind:", {n: kinds[n] for n in sorted(kinds)})
-    for name in QUESTIONS:
-        given = {n: c for (m, n), c in sorted(answers.items()) if m == name}
+    for name, numbers in trials.QUESTIONS.items():
+        given = {n: answers[f"{name} {n}"] for n in [0, *numbers]}
         print(f"{name}:", given)
+    print("line:", {name: answers[name] for name in sorted(answers) if "line" in name})
+    for name in (trials.AT_ONCE, trials.BY_ROUNDS):
+        print(f"{name}: {answers[name]}")
 
 
 def main() -> int:
     """The program."""
     options = argparse.ArgumentParser(description=__doc__)
     options.add_argument("clone", type=pathlib.Path)
-    options.add_argument("--seed", type=int, default=1)
-    options.add_argument("--count", type=int, default=300)
-    options.add_argument("--batch", type=int, default=30)
+    options.add_argument("--seed", type=int, default=trials.SEED)
+    options.add_argument("--count", type=int, default=trials.COUNT)
+    options.add_argument("--batch", type=int, default=120)
     options.add_argument("--plant", action="store_true", help="make one case wrong")
     chosen = options.parse_args()
     clone = Clone(chosen.clone)
-    rng = random.Random(chosen.seed)
-    drawn = trials(rng, chosen.count)
+    drawn = trials.trials(chosen.seed, chosen.count)
     describe(drawn)
+    missing = trials.missing(drawn)
+    if missing:
+        print("not shown by any case:", missing)
+    else:
+        print(
+            f"all {len(mutants.MODELS)} mutants noticed, each of "
+            f"{len(trials.WANTED)} answers given"
+        )
     if chosen.plant:
-        at = rng.randrange(len(drawn))
+        at = random.Random(chosen.seed).randrange(len(drawn))
         drawn[at].lie = True
         print(f"planted in case {at}")
     found: list[tuple[Trial, int, str]] = []
@@ -529,7 +499,7 @@ def main() -> int:
         print("   prover:", said[:2000])
     differ = sum(status == 1 for _, status, _ in found)
     print(f"{len(drawn)} cases, {differ} differ, {len(found) - differ} without verdict")
-    return 1 if found else 0
+    return 1 if found or missing else 0
 
 
 if __name__ == "__main__":

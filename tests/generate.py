@@ -258,7 +258,7 @@ def full(rng: random.Random) -> Picture:
 
 
 # --------------------------------------------------------------------------
-# Families that take many rounds (READINGS D)
+# Families that take many rounds
 # --------------------------------------------------------------------------
 
 
@@ -323,8 +323,8 @@ def cut_ring(kind: int, size: int, formulas: int, negated: bool) -> Picture:
 
 
 def dear() -> Iterator[tuple[str, Picture, Line]]:
-    """Jobs of up to the full size with verdict, rounds and cells: the table of
-    READINGS D."""
+    """Jobs of up to the full size with verdict, rounds and cells, as two other
+    models gave them."""
     for size, formulas, nodes, rounds, cells in (
         (16, 32, 2, 381, 1024),
         (64, 32, 2, 1773, 4096),

@@ -4,30 +4,29 @@
 
 Each mutant is the model with one place read otherwise.  For each the cases are
 answered again and those that change are counted; a mutant that changes none is
-a gap in the cases (or is equal to the model, as its note says).
+a gap in the cases.  Without options the cases are the gate's.
 """
 
 from __future__ import annotations
 
 import argparse
 import pathlib
-import random
 import sys
 import types
-from typing import TYPE_CHECKING, Callable
+from typing import TYPE_CHECKING, Iterable
 
 import checker
 
 if TYPE_CHECKING:
-    import compare
+    import trials
 
 SOURCE = pathlib.Path(checker.__file__).read_text()
 
 MUTANTS: list[tuple[str, str, str]] = [
-    ("restriction of the largest set by subtraction afterwards (B7)",
+    ("restriction of the largest set by subtraction afterwards",
      "largest = already.union(s for s in owned if s not in smallest and b[s] == FALSE)",
      "largest = already.union(s for s in owned if b[s] == FALSE)"),
-    ("no restriction of the smallest set while it grows (B7)",
+    ("no restriction of the smallest set while it grows",
      "            and own[s] != FALSE\n            and (\n", "            and (\n"),
     ("both sets without any restriction",
      "    return smallest, largest\n",
@@ -38,10 +37,10 @@ MUTANTS: list[tuple[str, str, str]] = [
      "    for _ in owned:\n"
      "        first -= {s for s in first if s not in already and a[s] != FALSE and not false(t in first for t in job.successors[s])}\n"
      "    return grown, first - grown\n"),
-    ("already true cells do not start the smallest set (B8)",
+    ("already true cells do not start the smallest set",
      "smallest = {s for s in job.fragment[node] if own[s] == TRUE}",
      "smallest = {s for s in job.border[node] if own[s] == TRUE}"),
-    ("already false cells must still be backed (B8)",
+    ("already false cells must still be backed",
      "            if s not in already\n", "            if s in owned\n"),
     ("border states do not count by their own true",
      "smallest = {s for s in job.fragment[node] if own[s] == TRUE}",
@@ -149,15 +148,16 @@ MUTANTS: list[tuple[str, str, str]] = [
 ]  # fmt: skip
 
 
-def module(source: str) -> types.ModuleType:
-    """The model, from other source."""
+def module(name: str, old: str, new: str) -> types.ModuleType:
+    """The model with one place of its source written otherwise."""
+    assert SOURCE.count(old) == 1, (name, SOURCE.count(old))
     made = types.ModuleType("mutant")
     sys.modules["mutant"] = made
-    exec(compile(source, "mutant", "exec"), made.__dict__)
+    exec(compile(SOURCE.replace(old, new), "mutant", "exec"), made.__dict__)
     return made
 
 
-def answers(model: types.ModuleType, trial: compare.Trial) -> list[object]:
+def answers(model: types.ModuleType, trial: trials.Trial) -> list[object]:
     """All that the model says of a case."""
     said: list[object] = []
     table = trial.table
@@ -172,8 +172,11 @@ def answers(model: types.ModuleType, trial: compare.Trial) -> list[object]:
     return said
 
 
-OF_SETS = 9
-"""The first so many mutants are about the sets of an until.
+MODELS = {mutant[0]: module(*mutant) for mutant in MUTANTS}
+"""The mutants as models."""
+
+OF_SETS = set(list(MODELS)[:9])
+"""The mutants about the sets of an until.
 
 The largest set taken first, without the cells already true, and winning over
 the smallest is no mutant: once filled cells are kept out of the other set the
@@ -181,45 +184,37 @@ two cannot meet, for the first cell to join the smallest that is in the largest
 too would have a successor that joined before it and is in both."""
 
 
-def telling(
-    rng: random.Random, draw: Callable[[random.Random], compare.Trial], times: int
-) -> list[compare.Trial]:
-    """Of the cases drawn, for each mutant about the sets the first `times`
-    that tell it from the model."""
-    models = [module(SOURCE.replace(old, new)) for _, old, new in MUTANTS[:OF_SETS]]
-    missing = [times] * len(models)
-    found = []
-    for _ in range(20_000):
-        if not any(missing):
-            break
-        trial = draw(rng)
-        right = answers(checker, trial)
-        told = [answers(m, trial) != right for m in models]
-        if any(t and left for t, left in zip(told, missing)):
-            found.append(trial)
-            missing = [max(0, left - t) for t, left in zip(told, missing)]
+def noticed(trial: trials.Trial, names: Iterable[str]) -> list[str]:
+    """Those of the mutants that answer a case otherwise than the model."""
+    right = answers(checker, trial)
+    return [name for name in names if answers(MODELS[name], trial) != right]
+
+
+def counts(drawn: list[trials.Trial]) -> dict[str, int]:
+    """How many of the cases notice each mutant."""
+    found = dict.fromkeys(MODELS, 0)
+    for trial in drawn:
+        for name in noticed(trial, MODELS):
+            found[name] += 1
     return found
 
 
-def main() -> None:
+def main() -> int:
     """The program."""
-    import compare
+    import trials
 
     options = argparse.ArgumentParser(description=__doc__)
-    options.add_argument("--seed", type=int, default=12)
-    options.add_argument("--count", type=int, default=500)
+    options.add_argument("--seed", type=int, default=trials.SEED)
+    options.add_argument("--count", type=int, default=trials.COUNT)
     chosen = options.parse_args()
-    drawn = compare.trials(random.Random(chosen.seed), chosen.count)
-    right = [answers(checker, trial) for trial in drawn]
-    missed = 0
-    for name, old, new in MUTANTS:
-        assert SOURCE.count(old) == 1, (name, SOURCE.count(old))
-        model = module(SOURCE.replace(old, new))
-        changed = sum(answers(model, t) != r for t, r in zip(drawn, right))
-        missed += changed == 0
-        print(f"{changed:5} {name}", flush=True)
-    print(f"{len(MUTANTS)} mutants, {missed} unnoticed by {len(drawn)} cases")
+    drawn = trials.trials(chosen.seed, chosen.count)
+    found = counts(drawn)
+    for name, times in found.items():
+        print(f"{times:5} {name}")
+    unnoticed = sum(times == 0 for times in found.values())
+    print(f"{len(found)} mutants, {unnoticed} unnoticed by {len(drawn)} cases")
+    return 1 if unnoticed else 0
 
 
 if __name__ == "__main__":
-    main()
+    sys.exit(main())

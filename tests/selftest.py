@@ -50,7 +50,7 @@ def check_printed() -> None:
 
 
 def check_ruled_out() -> None:
-    """The example of READINGS B7: x filled true with a, b false there; y -> x
+    """The restriction on the sets: x filled true with a, b false there; y -> x
     with b(y) false and a(y) empty stays empty."""
     job = Picture(
         1, [0, 0], [0, 0], [(0, 0), (1, 0)], [(1, 0, 0), (5, 0, 0), (1, 1, 0), (6, 1, 2)]
@@ -183,7 +183,7 @@ def check_demand_3(rng: random.Random, pictured: Picture, tally: Tally) -> None:
     assert answer[3] <= empty + 1 and answer[4] == empty
     check_true_cells(job, after)
     assert all(after[c] != EMPTY for c in inside(job))
-    # Two cuttings agree; rounds from a fresh table <= t x S + 2 (READINGS D).
+    # Two cuttings agree; rounds from a fresh table <= t x S + 2.
     here = checker.finish(text, fresh_table(job))[0]
     again = recut(rng, pictured).text()
     there = checker.finish(again, fresh_table(checker.parse(again)))[0]

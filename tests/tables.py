@@ -161,11 +161,13 @@ def make(name: str, text: bytes, table: bytes, numbers: tuple[int, ...]) -> Call
     return Call(name, text, numbers, answer, after)
 
 
-def any_numbers(rng: random.Random, job: Job, name: str) -> tuple[int, ...]:
+def any_numbers(
+    rng: random.Random, job: Job, name: str, fit: float = 0.9
+) -> tuple[int, ...]:
     """Numbers for a call: mostly fit, sometimes at or over their limits."""
 
     def number(limit: int) -> int:
-        if rng.random() < 0.9:
+        if rng.random() < fit:
             return rng.randrange(limit)
         return rng.choice([limit, limit + 1, 254, 255, 255, 256, 257, 65_535])
 
