@@ -19,7 +19,8 @@ pub extern "C" fn selahmur_offer(
     subformula: usize,
     out: &mut [usize],
 )
-    ensures told { λ _. ⌜ now (out .exit) ≡ stored (now (out .entry)) (numbers (answer (Call.offer state subformula) (now (text .entry)) (now (table .entry)))) ⌝ }
+    ensures told { λ _.
+        ⌜ now (out .exit) ≡ stored (now (out .entry)) (numbers (answer (Call.offer state subformula) (now (text .entry)) (now (table .entry)))) ⌝ }
     ensures left { λ _. ⌜ now (table .entry) ≡ after (Call.offer state subformula) (now (text .entry)) (now (table .entry)) ⌝ }
 {
     match offer(text, table, state, subformula) {

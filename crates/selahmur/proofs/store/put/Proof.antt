@@ -1,5 +1,6 @@
 -- `put`: where there is no room, `set` leaves the list as it is.
 use mathlib.Core.Path.{sym}
+use native.Mathlib.Omega.{arith}
 use lib.Seq.{set-out}
 use borrow.Author.Needs.{needs}
 use Rattle.selahmur.proofs.store.put.Statement.{statement}
@@ -8,7 +9,7 @@ use Rattle.selahmur.proofs.store.put.Tie as tie
 returns : tie.Need-returns
 returns c =
     let a = c .before .args in
-    sym (set-out (a .out .now) (a .at) (a .n) (c .if1 .taken))
+    sym (set-out (a .out .now) (a .at) (a .n) (omega arith))
 
 mul-out : tie.Need-mul-out
 mul-out c = search needs
