@@ -1,7 +1,7 @@
 -- An answer's numbers as they are stored, how many each answer has, and that `selahmur_line` names the part that the call line hands back.
 -- Assumes nothing.
-use Prim.Native.Nat.{ℕ, _+_}
-use mathlib.Core.Path.{_≡_, refl, ap, _∙_}
+use Prim.Native.Nat.{ℕ, _+_, _≤_}
+use mathlib.Core.Path.{_≡_, refl, ap, subst, _∙_}
 use mathlib.Core.List.{List}
 use mathlib.Core.Option.{Option}
 use mathlib.Core.Option as opt
@@ -16,6 +16,7 @@ use Rattle.cells.specs.Table.{Table}
 use Rattle.cells.specs.Questions.{Question}
 use Rattle.cells.specs.Calls.{Call, fresh, step, offer, accept, look, close, finish, width, told, refusal, answerUnless, answer}
 use Rattle.selahmur.specs.Stored.{stored}
+use Rattle.selahmur.proofs.StoredLaws.{stored-front}
 
 pub stored-told : (out : List ℕ) {last : List ℕ} {a b : Answer} → a ≡ b → last ≡ stored out (numbers a) → last ≡ stored out (numbers b)
 stored-told out same e = e ∙ ap (λ a. stored out (numbers a)) same
@@ -39,6 +40,14 @@ width-unless (opt.some q) c x t = omega (arith, length-replicate {A = ℕ} (widt
 pub answer-width : (c : Call) (x : Text) (t : Table) → length (numbers (answer c x t)) ≡ 2 + width c
 unfolding answer
 answer-width c x t = width-unless (refusal c x t) c x t
+
+-- so an array with room for that many begins with the answer, all of it
+pub answer-stored : (c : Call) (x : Text) (t : Table) (out : List ℕ) → 2 + width c ≤ length out
+    → take (2 + width c) (stored out (numbers (answer c x t))) ≡ numbers (answer c x t)
+answer-stored c x t out room =
+    let ns = numbers (answer c x t) in
+    let w = answer-width c x t in
+    subst (λ n. take n (stored out ns) ≡ ns) w (stored-front out ns (omega (arith, w)))
 
 read-width-unless : (q : Option text.Question) (x : Text) → length (numbers (unless x q (header x))) ≡ 6
 unfolding unless numbers header
