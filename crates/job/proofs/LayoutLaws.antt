@@ -6,7 +6,7 @@ use mathlib.Core.Bool.{true, false, _&&_}
 use mathlib.Core.List.{List, [], _∷_}
 use native.Mathlib.Omega.{arith}
 use borrow.Author.Tests.{leb-true, le-leb, lt-leb, eq-eqb, ne-eqb, eqb-true, eqb-false}
-use lib.ListN.{length, getD, take, drop}
+use lib.ListN.{length, getD}
 use lib.Dec.{leb, eqb, lit≤}
 use Rattle.law.proofs.Bool.{split, and-left, and-right}
 use Rattle.law.proofs.Bounded.{by-order}
@@ -16,7 +16,7 @@ use Rattle.job.specs.Field.{field, wellFormed}
 use Rattle.job.specs.Layout.{Text, formed, states, edges, subformulas, nodes, lengthOf, stateAt, subformulaAt, lines, fieldsOf, lineAt}
 use Rattle.job.specs.Questions.{firstLine, ranges, textLength, numberOf, headQuestions, yes, noLine, asked, passes, within, inRanges}
 use Rattle.job.specs.Answer.{accepted, refused}
-use Rattle.job.specs.Read.{unless, header, headAnswer, readTold, lineOf}
+use Rattle.job.specs.Read.{unless, header, headAnswer, readTold, hasLine, lineStart, lineLength}
 use Rattle.job.specs.declared.field.Field.the-variants.{Number, Malformed}
 use Rattle.job.specs.Leaves.{Fits}
 use Rattle.job.specs.declared.reader.Header.{Header}
@@ -183,8 +183,8 @@ fields-few t l =
     (λ g. rw (fields-four t l g) (lit≤ tt))
 
 -- The line asked for, where the head accepts and where it does not.
-pub line-refused : (t : Text) (l number line : ℕ) → refused number line 4 ≡ headAnswer t → lineOf t l ≡ []
-unfolding headAnswer headQuestions firstNo unless lineOf
+pub line-refused : (t : Text) (l number line : ℕ) → refused number line 4 ≡ headAnswer t → hasLine t l ≡ false
+unfolding headAnswer headQuestions firstNo unless hasLine
 line-refused t l number line told =
     split (passes t firstLine)
     (λ a.
@@ -196,20 +196,25 @@ line-refused t l number line told =
     (λ b. simp (a, b)))
     (λ a. simp a)
 
+-- no line: the part 0, 0
+pub line-none : (t : Text) (l : ℕ) → hasLine t l ≡ false → ((0 ≡ lineStart t l) × (0 ≡ lineLength t l)) × (0 + 0 ≤ length t)
+unfolding lineStart lineLength
+line-none t l e = ((simp e, simp e), omega arith)
+
 module _ (t : Text) (h : Header) (fits : Fits t h) (l : ℕ) where
-  pub line-zero : l ≡ 0 → lineOf t l ≡ []
-  unfolding lineOf
+  pub line-zero : l ≡ 0 → hasLine t l ≡ false
+  unfolding hasLine
   line-zero z = simp (fits .line-formed, fits .in-ranges, fits .length-right, z)
 
-  pub line-past : 1 + (h .states + h .edges) + h .subformulas < l → lineOf t l ≡ []
-  unfolding lineOf lines
+  pub line-past : 1 + (h .states + h .edges) + h .subformulas < l → hasLine t l ≡ false
+  unfolding hasLine lines
   line-past g =
       let past : 1 + states t + edges t + subformulas t < l = omega arith in
       simp (fits .line-formed, fits .in-ranges, fits .length-right, le-leb 1 l (omega arith), lt-leb l (1 + states t + edges t + subformulas t) past)
 
   module _ (from : 1 ≤ l) (to : l ≤ 1 + (h .states + h .edges) + h .subformulas) where
-    pub line-there : lineOf t l ≡ take (5 * fieldsOf t l) (drop (lineAt t l) t)
-    unfolding lineOf lines
+    line-there : hasLine t l ≡ true
+    unfolding hasLine lines
     line-there =
         let there : l ≤ 1 + states t + edges t + subformulas t = omega arith in
         simp (
@@ -219,6 +224,14 @@ module _ (t : Text) (h : Header) (fits : Fits t h) (l : ℕ) where
           le-leb 1 l from,
           le-leb l (1 + states t + edges t + subformulas t) there,
         )
+
+    pub line-starts : lineStart t l ≡ lineAt t l
+    unfolding lineStart
+    line-starts = simp line-there
+
+    pub line-has : lineLength t l ≡ 5 * fieldsOf t l
+    unfolding lineLength
+    line-has = simp line-there
 
     -- a line's fields and its byte 10 are within the text
     pub line-inside : lineAt t l + 5 * fieldsOf t l < length t

@@ -2,7 +2,7 @@
 -- line number and hands back that part of the caller's text without byte 10; the line is found by the lengths above and its
 -- last byte is dropped unread; the part is empty if questions 1 to 3 fail or no such line exists." Assumes nothing.
 use Prim.Native.Nat.{ℕ, _*_}
-use mathlib.Core.Bool.{cond, _&&_}
+use mathlib.Core.Bool.{Bool, cond, _&&_}
 use mathlib.Core.List.{List, [], _∷_}
 use mathlib.Core.Option.{Option}
 use mathlib.Core.Option as opt
@@ -41,8 +41,16 @@ unfoldable pub refusalOf : Reading → Refusal
 refusalOf (Accepted h) = record { number = 0; line = 0 }
 refusalOf (Refused why) = why
 
+-- Whether there is a line l to hand back: questions 1 to 3 are answered yes, and lines are counted from 1.
+unfoldable pub hasLine : Text → ℕ → Bool
+hasLine t l = passes t firstLine && passes t ranges && passes t textLength && leb 1 l && leb l (lines t)
+
+-- Where that part of the text begins and how many bytes it has; 0 and 0, the empty part, where there is no such line.
+unfoldable pub lineStart : Text → ℕ → ℕ
+lineStart t l = cond (hasLine t l) (lineAt t l) 0
+
+unfoldable pub lineLength : Text → ℕ → ℕ
+lineLength t l = cond (hasLine t l) (5 * fieldsOf t l) 0
+
 unfoldable pub lineOf : Text → ℕ → List ℕ
-lineOf t l =
-    cond (passes t firstLine && passes t ranges && passes t textLength && leb 1 l && leb l (lines t))
-    (take (5 * fieldsOf t l) (drop (lineAt t l) t))
-    []
+lineOf t l = take (lineLength t l) (drop (lineStart t l) t)

@@ -4,7 +4,7 @@ ghost use Prim.Native.Nat.{_+_, _*_, _≤_, _<_};
 ghost use lib.ListN.{length};
 ghost use Rattle.job.specs.Layout.{Text, numberAt, formed, states, edges, fieldsOf, lineAt};
 ghost use Rattle.job.specs.Questions.{inRanges, within};
-ghost use Rattle.job.specs.Read.{readTold, headAnswer, lineOf};
+ghost use Rattle.job.specs.Read.{readTold, headAnswer, lineStart, lineLength, lineOf};
 use crate::field::Field;
 use crate::field::read_field;
 use crate::reader::Header;
@@ -112,22 +112,40 @@ pub(crate) fn line_start(pairs: usize, number: usize) -> usize
     21 + 11 * pairs + 16 * (number - (2 + pairs))
 }
 
-// Line `number` of the text, counted from 1, without byte 10; the empty part where there is no such line.
-pub fn line(text: &[u8], number: usize) -> &[u8]
-    ensures { λ r. ⌜ now r ≡ lineOf (now (text .entry)) number ⌝ }
+// A part of a text: where it begins, and how many bytes it has.
+pub struct Part {
+    pub start: usize,
+    pub size: usize,
+}
+
+// Where line `number` stands, counted from 1, without byte 10; 0 and 0 where there is no such line.
+pub fn line_part(text: &[u8], number: usize) -> Part
+    ensures stands { λ r. ⌜ (r .start ≡ lineStart (now (text .entry)) number) × (r .size ≡ lineLength (now (text .entry)) number) ⌝ }
+    ensures inside { λ r. ⌜ r .start + r .size ≤ length (now (text .entry)) ⌝ }
 {
     let head = head(text);
     let Reading::Accepted(h) = head else {
-        return &text[0..0];
+        return Part { start: 0, size: 0 };
     };
     let pairs = h.states + h.edges;
     if number == 0 {
-        return &text[0..0];
+        return Part { start: 0, size: 0 };
     }
     if 1 + pairs + h.subformulas < number {
-        return &text[0..0];
+        return Part { start: 0, size: 0 };
     }
-    let start = line_start(pairs, number);
-    let end = start + 5 * fields_in(pairs, number);
+    Part {
+        start: line_start(pairs, number),
+        size: 5 * fields_in(pairs, number),
+    }
+}
+
+// Line `number` itself: that part of the caller's text, the empty part where there is no such line.
+pub fn line(text: &[u8], number: usize) -> &[u8]
+    ensures { λ r. ⌜ now r ≡ lineOf (now (text .entry)) number ⌝ }
+{
+    let part = line_part(text, number);
+    let start = part.start;
+    let end = start + part.size;
     &text[start..end]
 }

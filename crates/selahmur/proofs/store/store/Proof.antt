@@ -1,0 +1,74 @@
+-- `store`: after i turns the first i numbers are stored.
+use Prim.Native.Nat.{_-_, _≤_}
+use mathlib.Core.Path.{_≡_, ap, _∙_}
+use native.Mathlib.Omega.{arith}
+use lib.ListN.{length, take}
+use Rattle.selahmur.specs.Stored.{stored}
+use Rattle.selahmur.proofs.StoredLaws.{stored-length, stored-none, stored-more, stored-all}
+use borrow.Author.Needs.{needs}
+use Rattle.selahmur.proofs.store.store.Statement.{statement}
+use Rattle.selahmur.proofs.store.store.Tie as tie
+
+abbrev Inv-loop : tie.InvT-loop
+Inv-loop out₀ numbers i₀ i-end out i = (i ≤ length numbers) × (i-end ≡ length numbers) × (out ≡ stored out₀ (take i numbers))
+
+abbrev μ-loop : tie.MeasureT-loop
+μ-loop out₀ numbers i₀ i-end out i = i-end - i
+
+loop-holds : tie.Need-loop-holds Inv-loop μ-loop
+loop-holds c = (
+  search needs,
+  search needs,
+  stored-none (c .before .before .args .out .now) (c .before .before .args .numbers .now),
+)
+
+mul-put : tie.Need-mul-put Inv-loop μ-loop
+mul-put c = search needs
+
+shared-slice-read-put : tie.Need-shared-slice-read-put Inv-loop μ-loop
+shared-slice-read-put c = search needs
+
+put-requires : tie.Need-put-requires Inv-loop μ-loop
+put-requires c κs = search needs
+
+add-i : tie.Need-add-i Inv-loop μ-loop
+add-i c = search needs
+
+loop-less : tie.Need-loop-less Inv-loop μ-loop
+loop-less c = search needs
+
+loop-again : tie.Need-loop-again Inv-loop μ-loop
+loop-again c =
+    let a = c .before .before .before .before .before .before .before .before .before .args in
+    let now = c .before .before .before .before .before .before .loop in (
+      search needs,
+      search needs,
+      stored-more (a .out .now) (a .numbers .now) (now .out) (c .before .before .put .last .0) (now .i) (omega arith) (now .inv .2)
+          (c .before .before .put .ensures),
+    )
+
+same-length : tie.Need-same-length Inv-loop μ-loop
+same-length c =
+    let a = c .before .before .before .before .args in
+    ap length (c .before .loop .inv .2) ∙ stored-length (a .out .now) (take (c .before .loop .i) (a .numbers .now))
+
+returns : tie.Need-returns Inv-loop μ-loop
+returns c =
+    let a = c .before .before .before .before .args in
+    c .before .loop .inv .2 ∙ stored-all (a .out .now) (a .numbers .now) (c .before .loop .i) (omega arith)
+
+pub store-spec : {M : Type 1} → statement M
+store-spec =
+    tie.close
+    (tie.spec
+    Inv-loop
+    μ-loop
+    loop-holds
+    mul-put
+    shared-slice-read-put
+    put-requires
+    add-i
+    loop-less
+    loop-again
+    same-length
+    returns)

@@ -1,0 +1,56 @@
+// The calls about messages: offer and accept. A refusal leaves every byte of the table.
+ghost use mathlib.Core.Path.{_≡_};
+ghost use Rattle.job.specs.Answer.{numbers};
+ghost use Rattle.cells.specs.Calls.{Call, answer, after};
+ghost use Rattle.selahmur.specs.Stored.{stored};
+use crate::store::store;
+use calls::accept::Delivered;
+use calls::accept::accept;
+use calls::offer::Message;
+use calls::offer::Offered;
+use calls::offer::offer;
+
+// Hands out a message from the owner's cell. Own numbers: state, subformula, value.
+#[no_mangle]
+pub extern "C" fn selahmur_offer(
+    text: &[u8],
+    table: &[u8],
+    state: usize,
+    subformula: usize,
+    out: &mut [usize],
+)
+    ensures told { λ _.
+        ⌜ now (out .exit) ≡ stored (now (out .entry)) (numbers (answer (Call.offer state subformula) (now (text .entry)) (now (table .entry)))) ⌝ }
+    ensures left { λ _. ⌜ now (table .entry) ≡ after (Call.offer state subformula) (now (text .entry)) (now (table .entry)) ⌝ }
+{
+    match offer(text, table, state, subformula) {
+        Offered::Accepted(m) => store(out, &[0, 0, m.state, m.subformula, m.value as usize]),
+        Offered::Refused(why) => store(out, &[why.number as usize, why.line, 0, 0, 0]),
+    }
+}
+
+// A node's cell at a border state takes a message's value, if it is empty. Own number: how many cells are filled, 0 or 1.
+#[no_mangle]
+pub extern "C" fn selahmur_accept(
+    text: &[u8],
+    table: &mut [u8],
+    node: usize,
+    state: usize,
+    subformula: usize,
+    value: u8,
+    out: &mut [usize],
+)
+    ensures told { λ _.
+        ⌜ now (out .exit) ≡ stored (now (out .entry)) (numbers (answer (Call.accept node state subformula value) (now (text .entry)) (now (table .entry)))) ⌝ }
+    ensures left { λ _. ⌜ now (table .exit) ≡ after (Call.accept node state subformula value) (now (text .entry)) (now (table .entry)) ⌝ }
+{
+    let message = Message {
+        state,
+        subformula,
+        value,
+    };
+    match accept(text, table, node, message) {
+        Delivered::Accepted(filled) => store(out, &[0, 0, filled]),
+        Delivered::Refused(why) => store(out, &[why.number as usize, why.line, 0]),
+    }
+}

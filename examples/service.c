@@ -1,0 +1,114 @@
+/*
+ * A worked example for whoever writes the service in C: judges a job as its workers would, call by call.
+ *
+ *     rt staticlib selahmur
+ *     cc -std=c99 -Wall -Wextra -Iinclude examples/service.c target/staticlib/libselahmur.a -o target/service
+ *     target/service examples/menu.job
+ *
+ * Every worker steps. Then each owner's new results are offered and delivered to the workers that have the state at their border. When a
+ * turn of this fills nothing the table is settled, and a close makes the smallest open subformula false; when nothing is open either, the
+ * table is full and finish only reads the verdict. Here one process plays all workers; in a service a worker is a thread or a machine, and the
+ * messages travel as slowly as they like.
+ *
+ * Prints one line: the verdict and what was done, or the refusal with the line that it is about. Exit status 0 for yes, 1 for no, 2 otherwise.
+ */
+#include <stdio.h>
+#include <stdlib.h>
+
+#include "selahmur.h"
+
+enum { LONGEST = 25877, MOST_CELLS = 65536, MOST_MESSAGES = 256 * 32 };
+
+static uint8_t text[LONGEST + 1];
+static size_t length;
+static uint8_t table[MOST_CELLS];
+static size_t cells;
+static size_t answer[SELAHMUR_MOST_NUMBERS];
+
+static const size_t room = SELAHMUR_MOST_NUMBERS;
+
+/* Ends the program where a call is refused that must not be: by reading alone, for a job that is not well-formed. */
+static void accepted(const char *call)
+{
+    size_t number = answer[0], line = answer[1];
+
+    if (number == SELAHMUR_ACCEPTED)
+        return;
+    printf("%s is refused: %zu", call, number);
+    if (line != 0) {
+        printf(", line %zu", line);
+        selahmur_line(text, length, line, answer, room);
+        if (answer[1] != 0)
+            printf(": '%.*s'", (int)answer[1], (const char *)text + answer[0]);
+    }
+    printf("\n");
+    exit(2);
+}
+
+int main(int argc, char **argv)
+{
+    static uint8_t told[MOST_MESSAGES]; /* the messages that were sent already */
+    size_t states, subformulas, nodes;
+    size_t steps = 0, messages = 0, closes = 0, filled = 0, turn;
+    FILE *file = argc == 2 ? fopen(argv[1], "rb") : NULL;
+
+    if (file == NULL) {
+        fprintf(stderr, "usage: service JOB\n");
+        return 2;
+    }
+    length = fread(text, 1, sizeof text, file);
+    fclose(file);
+
+    selahmur_read(text, length, answer, room);
+    accepted("read");
+    states = answer[2];
+    subformulas = answer[4];
+    nodes = answer[5];
+    cells = nodes * states * subformulas;
+    selahmur_fresh(text, length, table, cells, answer, room);
+    accepted("fresh");
+
+    do {
+        turn = 0;
+        for (size_t node = 0; node < nodes; node++) {
+            selahmur_step(text, length, table, cells, node, answer, room);
+            accepted("step");
+            steps++;
+            turn += answer[2];
+        }
+        for (size_t message = 0; message < states * subformulas; message++) {
+            size_t state = message / subformulas, subformula = message % subformulas;
+
+            if (told[message])
+                continue;
+            selahmur_offer(text, length, table, cells, state, subformula, answer, room);
+            if (answer[0] == SELAHMUR_NOT_TEMPORAL || answer[0] == SELAHMUR_OWNER_EMPTY)
+                continue;
+            accepted("offer");
+            told[message] = 1;
+            uint8_t value = (uint8_t)answer[4];
+            for (size_t node = 0; node < nodes; node++) {
+                selahmur_accept(text, length, table, cells, node, state, subformula, value, answer, room);
+                if (answer[0] == SELAHMUR_NOT_BORDER)
+                    continue;
+                accepted("accept");
+                messages++;
+                turn += answer[2];
+            }
+        }
+        if (turn == 0) {
+            selahmur_close(text, length, table, cells, answer, room);
+            if (answer[0] != SELAHMUR_NOTHING_OPEN) {
+                accepted("close");
+                closes++;
+                turn = answer[3];
+            }
+        }
+        filled += turn;
+    } while (turn > 0);
+
+    selahmur_finish(text, length, table, cells, answer, room);
+    accepted("finish");
+    printf("%s: %zu cells, %zu steps, %zu messages, %zu closes\n", answer[2] ? "yes" : "no", filled, steps, messages, closes);
+    return answer[2] ? 0 : 1;
+}

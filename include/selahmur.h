@@ -1,0 +1,127 @@
+/*
+ * selahmur.h: the nine calls of Selahmur for programs in C.
+ *
+ *     rt staticlib selahmur                       writes target/staticlib/libselahmur.a
+ *     cc -Iinclude service.c target/staticlib/libselahmur.a
+ *
+ * A job is a text: a state structure, a CTL formula and a cutting over nodes, the workers. Its table has one byte for each node, state and
+ * subformula, nodes * states * subformulas in all (at most 65,536), and the cell of a node n, a state s and a subformula k is byte
+ * (n * states + s) * subformulas + k: 0 false, 1 true, 2 empty. `selahmur_read` tells the sizes, the caller lends the table, and
+ * `selahmur_fresh` makes it fresh. From then on steps, messages and closes come in any order, and `selahmur_finish` gives the verdict.
+ * examples/service.c does so from beginning to end.
+ *
+ * What is passed. Any bytes as the text, any bytes as the table, any numbers: what does not fit is refused. Each array is a pointer and the
+ * number of its elements. The pointer may not be null, even where that number is 0, and the arrays of one call may not overlap. The text is
+ * only read; so is the table by offer and look.
+ *
+ * What is answered. Every call stores all numbers of its answer into `answer`, which the caller lends: the number of the refusal or
+ * SELAHMUR_ACCEPTED, the line that the refusal is about, then the call's own numbers. (`selahmur_line` alone is never refused and has only
+ * numbers of its own.) A refusal tells 0 in all of the call's own numbers and leaves every byte of the table. An array that is too short takes
+ * as many numbers as fit, nothing is ever written behind it, and what lies behind the last number of a longer one stays. The constants
+ * SELAHMUR_..._NUMBERS say how long an array takes the whole answer.
+ *
+ * Nothing is kept between calls, nothing is allocated and no file is touched, so threads may call at once, each on a table of its own.
+ * Calls on one table come one after the other. A call uses some 80 KB of the calling thread's stack, whatever the job.
+ *
+ * Every function is proved to give the numbers and the bytes that the specification gives, for whatever is passed.
+ */
+#ifndef SELAHMUR_H
+#define SELAHMUR_H
+
+#include <stddef.h>
+#include <stdint.h>
+
+#ifdef __cplusplus
+extern "C" {
+#endif
+
+/* The first number of an answer: the first question that is answered no. For 1 to 8 the second number is the first line that fails it,
+ * counted from 1; for all others it is 0. */
+enum {
+    SELAHMUR_ACCEPTED = 0,
+    SELAHMUR_BAD_FIRST_LINE = 1,    /* fewer than 21 bytes, or line 1 is not four well-formed fields and byte 10 */
+    SELAHMUR_BAD_SIZES = 2,         /* states 1 to 256, edges 1 to 2,048, subformulas 1 to 32, nodes 1 to 8 */
+    SELAHMUR_BAD_LENGTH = 3,        /* the text has not 21 + 11 * states + 11 * edges + 16 * subformulas bytes */
+    SELAHMUR_BAD_LINE = 4,          /* a further line is not made of well-formed fields and byte 10 */
+    SELAHMUR_BAD_STATE = 5,         /* an owner that is no node, or a label above 65,535 */
+    SELAHMUR_BAD_EDGE = 6,          /* an end that is no state, or a pair that is not greater than the pair before */
+    SELAHMUR_NO_EDGE_OUT = 7,       /* the state of this line has no edge out */
+    SELAHMUR_BAD_SUBFORMULA = 8,    /* a kind that is not 1 to 7, or operands that do not fit the kind */
+    SELAHMUR_TABLE_LENGTH = 9,      /* the table has not nodes * states * subformulas bytes */
+    SELAHMUR_TABLE_CELLS = 10,      /* a byte above 2, or a filled cell outside the node's fragment */
+    SELAHMUR_NO_SUCH_NODE = 11,     /* the node is not below the number of nodes (look: nor 255) */
+    SELAHMUR_NO_SUCH_CELL = 12,     /* no such state, or no such subformula */
+    SELAHMUR_NOT_TEMPORAL = 13,     /* the subformula is not of kind 4 to 7 */
+    SELAHMUR_OWNER_EMPTY = 14,      /* the owner's cell is empty */
+    SELAHMUR_BAD_VALUE = 15,        /* the message's value is neither 0 nor 1 */
+    SELAHMUR_NOT_BORDER = 16,       /* the state is not a border state of the node's fragment */
+    SELAHMUR_OTHER_VALUE = 17,      /* the cell is filled with the other value */
+    SELAHMUR_OUTSIDE_FRAGMENT = 18, /* the state is not in the node's fragment */
+    SELAHMUR_NOT_SETTLED = 19,      /* a step or a message would still fill a cell */
+    SELAHMUR_NOTHING_OPEN = 20      /* every owner's cell is filled */
+};
+
+/* How many numbers each call's answer has. */
+enum {
+    SELAHMUR_READ_NUMBERS = 6,
+    SELAHMUR_LINE_NUMBERS = 2,
+    SELAHMUR_FRESH_NUMBERS = 2,
+    SELAHMUR_STEP_NUMBERS = 3,
+    SELAHMUR_OFFER_NUMBERS = 5,
+    SELAHMUR_ACCEPT_NUMBERS = 3,
+    SELAHMUR_LOOK_NUMBERS = 3,
+    SELAHMUR_CLOSE_NUMBERS = 4,
+    SELAHMUR_FINISH_NUMBERS = 5,
+    SELAHMUR_MOST_NUMBERS = 6 /* room for any answer */
+};
+
+/* Look: no node is named. */
+enum { SELAHMUR_NO_NODE = 255 };
+
+/* Reads the job. Refusals 1 to 8.
+ * Answer: number, line, states, edges, subformulas, nodes. */
+void selahmur_read(const uint8_t *text, size_t text_length, size_t *answer, size_t answer_length);
+
+/* Where a line of the text stands, counted from 1 and without byte 10: so the line that a refusal is about can be shown.
+ * Answer: the place of its first byte, and how many bytes there are; 0 and 0 where refusals 1 to 3 apply or there is no such line. */
+void selahmur_line(const uint8_t *text, size_t text_length, size_t number, size_t *answer, size_t answer_length);
+
+/* Makes every cell of the table empty, whatever it holds. Refusals 1 to 9.
+ * Answer: number, line. */
+void selahmur_fresh(const uint8_t *text, size_t text_length, uint8_t *table, size_t table_length, size_t *answer, size_t answer_length);
+
+/* The step of one node: its empty cells take the values that the rules give them; a filled cell never changes. Refusals 1 to 11.
+ * Answer: number, line, how many cells are filled. */
+void selahmur_step(const uint8_t *text, size_t text_length, uint8_t *table, size_t table_length, size_t node, size_t *answer,
+                   size_t answer_length);
+
+/* Hands out a message from the cell of the state's owner. The table stays. Refusals 1 to 10 and 12 to 14.
+ * Answer: number, line, then the message: state, subformula, value. */
+void selahmur_offer(const uint8_t *text, size_t text_length, const uint8_t *table, size_t table_length, size_t state,
+                    size_t subformula, size_t *answer, size_t answer_length);
+
+/* Delivers a message to a node where the state is a border state: the cell takes the value if it is empty. Pass only what an offer on this job
+ * handed out; it may come late, more than once, in any order. Refusals 1 to 13 and 15 to 17. (`value` is a byte: C cuts a larger number.)
+ * Answer: number, line, how many cells are filled, 0 or 1. */
+void selahmur_accept(const uint8_t *text, size_t text_length, uint8_t *table, size_t table_length, size_t node, size_t state,
+                     size_t subformula, uint8_t value, size_t *answer, size_t answer_length);
+
+/* The cell of a node, a state and a subformula; SELAHMUR_NO_NODE is read as node 0. The table stays. Refusals 1 to 12 and 18.
+ * Answer: number, line, the cell: 0, 1 or 2. */
+void selahmur_look(const uint8_t *text, size_t text_length, const uint8_t *table, size_t table_length, size_t node, size_t state,
+                   size_t subformula, size_t *answer, size_t answer_length);
+
+/* On a settled table, makes every empty cell of the smallest subformula that is open at some owner false. Refusals 1 to 10, 19 and 20.
+ * Answer: number, line, that subformula, how many cells are filled. */
+void selahmur_close(const uint8_t *text, size_t text_length, uint8_t *table, size_t table_length, size_t *answer, size_t answer_length);
+
+/* Rounds of steps, copies to border states and closes, until one fills nothing. Refusals 1 to 10.
+ * Answer: number, line, the verdict (1 yes, 0 no), the rounds done with that last one, how many cells are filled. */
+void selahmur_finish(const uint8_t *text, size_t text_length, uint8_t *table, size_t table_length, size_t *answer,
+                     size_t answer_length);
+
+#ifdef __cplusplus
+}
+#endif
+
+#endif

@@ -1,0 +1,793 @@
+"""The compiled calls against the model, through the library for C.
+
+    calls.py ARCHIVE [--seed N] [--count N]
+    calls.py ARCHIVE --replay CASE
+
+ARCHIVE is target/staticlib/libselahmur.a.  Makes lists of calls through the
+functions of include/selahmur.h, and after every call compares every number of
+the answer and every byte of the table with the model's.  The text has to stay,
+and so have the bytes around text, table and answer, and the answer's array
+behind the last number.  That array is too short, just long enough or longer.
+
+A list is a job and a table on which it goes on.  Honest lists play the workers
+from a fresh table to a full one, with messages that come late, twice, or after
+the step that they would have spared.  Others start from any table.  In all of
+them come damaged texts, other jobs' texts, tables of a wrong length or with
+wrong bytes, and numbers out of range.  Each of COUNT draws is some lists of
+small jobs; the jobs at the limits come besides.
+
+It counts too, and fails where a call is never accepted, or where a number that
+a call can refuse with never comes.  examples/service.c is compiled with the
+header and has to print what the model says of the same calls.
+"""
+
+from __future__ import annotations
+
+import argparse
+import base64
+import collections
+import ctypes
+import json
+import mmap
+import os
+import pathlib
+import random
+import re
+import struct
+import subprocess
+import sys
+import tempfile
+import time
+import traceback
+import zlib
+from dataclasses import dataclass, replace
+from typing import Iterator
+
+import checker
+import damaged
+import generate
+import tables
+from checker import EMPTY
+
+ROOT = pathlib.Path(__file__).parents[1]
+HEADER = ROOT / "include" / "selahmur.h"
+SERVICE = ROOT / "examples" / "service.c"
+
+SECONDS = 60
+"""How long the library may take for one call."""
+
+SHOWN = 3
+"""How many differences are printed in full, those with the shortest texts."""
+
+TEXT_QUESTIONS = [0, 1, 2, 3, 4, 5, 6, 7, 8]
+QUESTIONS = {
+    "read": TEXT_QUESTIONS,
+    "fresh": [*TEXT_QUESTIONS, 9],
+    "step": [*TEXT_QUESTIONS, 9, 10, 11],
+    "offer": [*TEXT_QUESTIONS, 9, 10, 12, 13, 14],
+    "accept": [*TEXT_QUESTIONS, 9, 10, 11, 12, 13, 15, 16, 17],
+    "look": [*TEXT_QUESTIONS, 9, 10, 11, 12, 18],
+    "close": [*TEXT_QUESTIONS, 9, 10, 19, 20],
+    "finish": [*TEXT_QUESTIONS, 9, 10],
+}
+"""The numbers that each call can give ("Read puts 1 to 8; ...")."""
+
+TOLD = {
+    "line": ["part", "empty"],
+    "accept": ["fills 0", "fills 1"],
+    "look": ["cell 0", "cell 1", "cell 2"],
+    "offer": ["value 0", "value 1"],
+    "finish": ["verdict 0", "verdict 1"],
+}
+"""What an accepted call can say, and must have said at least once."""
+
+HUGE = [2**16, 2**31, 2**32 - 1, 2**32, 2**32 + 1, 2**63, 2**64 - 2, 2**64 - 1]
+"""Numbers that fit no cell: some become small ones where they are cut."""
+
+
+# --------------------------------------------------------------------------
+# One call
+# --------------------------------------------------------------------------
+
+
+@dataclass
+class Case:
+    """A call: what is passed, and how long the array for the answer is."""
+
+    name: str
+    text: bytes
+    table: bytes
+    numbers: tuple[int, ...]
+    room: int
+
+    def written(self) -> str:
+        """The case as one word, for --replay."""
+        parts = [self.name, self.text.hex(), self.table.hex(), self.numbers, self.room]
+        return base64.b85encode(zlib.compress(json.dumps(parts).encode(), 9)).decode()
+
+    @staticmethod
+    def read(word: str) -> Case:
+        """The case that was written so."""
+        parts = json.loads(zlib.decompress(base64.b85decode(word)))
+        name, text, table = parts[0], bytes.fromhex(parts[1]), bytes.fromhex(parts[2])
+        return Case(name, text, table, tuple(parts[3]), parts[4])
+
+
+def line_place(text: bytes, number: int) -> list[int]:
+    """The model's line: where it starts and how long it is."""
+    try:
+        start, count = checker.place(checker.sizes(text), number)
+    except checker.No:
+        return [0, 0]
+    return [start, 5 * count]
+
+
+def model(case: Case) -> tuple[list[int], bytes]:
+    """All numbers of the model's answer, and the table afterwards."""
+    if case.name == "read":
+        return list(checker.read(case.text)), case.table
+    if case.name == "line":
+        return line_place(case.text, *case.numbers), case.table
+    return getattr(checker, case.name)(case.text, case.table, *case.numbers)
+
+
+@dataclass
+class Difference:
+    """A call where something is wrong, with the numbers of both."""
+
+    case: Case
+    model: list[int]
+    library: list[int]
+    wrong: list[str]
+
+    def show(self) -> None:
+        """Print it so that it can be made again."""
+        case = self.case
+        print(f"DIFFERS: {case.name}{case.numbers}, room for {case.room}: ", end="")
+        print("; ".join(self.wrong))
+        show_text(case.text)
+        print(f"    table of {len(case.table)} bytes: {case.table[:96].hex()}")
+        print(f"    model:   {self.model}")
+        print(f"    library: {self.library}")
+        print(f"    again:   --replay '{case.written()}'")
+
+
+def show_text(text: bytes) -> None:
+    """A text, or the beginning of a long one."""
+    parts = text.splitlines(keepends=True)
+    for part in parts[:30]:
+        print("   ", part)
+    if len(parts) > 30:
+        print(f"    .. {len(text)} bytes")
+
+
+# --------------------------------------------------------------------------
+# The library
+# --------------------------------------------------------------------------
+
+
+def header_widths() -> dict[str, int]:
+    """How many numbers each answer has, as the header says."""
+    found = re.findall(r"SELAHMUR_(\w+)_NUMBERS = (\d+)", HEADER.read_text())
+    return {name.lower(): int(width) for name, width in found}
+
+
+def header_wrong() -> Iterator[str]:
+    """The header names every number of a refusal, and each once."""
+    found = re.findall(r"^    SELAHMUR_(\w+) = (\d+)", HEADER.read_text(), re.M)
+    numbers = [int(n) for name, n in found if not name.endswith("_NUMBERS")]
+    if numbers != list(range(21)):
+        yield f"the header's refusals are {numbers}"
+
+
+def compiled(arguments: list[str], made: pathlib.Path) -> pathlib.Path:
+    """Have the C compiler make a file."""
+    subprocess.run(["cc", *arguments, "-o", str(made)], check=True)
+    return made
+
+
+class Lent:
+    """Memory to lend, with bytes before and behind that have to stay."""
+
+    GUARD = bytes(range(0x91, 0xD1))
+
+    def __init__(self, most: int) -> None:
+        self.memory = ctypes.create_string_buffer(most + 2 * len(self.GUARD))
+        self.start = ctypes.addressof(self.memory)
+        self.held = b""
+
+    def lend(self, data: bytes) -> int:
+        """Put the bytes into the memory; where they stand."""
+        whole = self.GUARD + data + self.GUARD
+        ctypes.memmove(self.start, whole, len(whole))
+        self.held = data
+        return self.start + len(self.GUARD)
+
+    def back(self) -> tuple[bytes, bool]:
+        """The bytes now, and whether those around them stayed."""
+        guard = len(self.GUARD)
+        whole = ctypes.string_at(self.start, len(self.held) + 2 * guard)
+        kept = whole[:guard] == self.GUARD and whole[-guard:] == self.GUARD
+        return whole[guard:-guard], kept
+
+
+class Library:
+    """The functions of the archive."""
+
+    def __init__(self, archive: str, where: pathlib.Path) -> None:
+        whole = ["-Wl,--whole-archive", archive, "-Wl,--no-whole-archive"]
+        loaded = ctypes.CDLL(str(compiled(["-shared", *whole], where / "selahmur.so")))
+        size, array = ctypes.c_size_t, [ctypes.c_void_p, ctypes.c_size_t]
+        self.functions = {}
+        for name in ["read", "line", *tables.NUMBERS]:
+            count = {"read": 0, "line": 1, **tables.NUMBERS}[name]
+            numbers = [size] * count
+            if name == "accept":
+                numbers[-1] = ctypes.c_uint8
+            lent = array if name in ("read", "line") else array * 2
+            function = getattr(loaded, f"selahmur_{name}")
+            function.argtypes = [*lent, *numbers, *array]
+            function.restype = None
+            self.functions[name] = function
+        self.text, self.table = Lent(200_000), Lent(200_000)
+        self.answer = Lent(8 * 100)
+
+    def call(self, case: Case) -> tuple[list[int], bytes, list[str]]:
+        """Make the call: the array, the table, and what else is wrong."""
+        lent = [self.text.lend(case.text), len(case.text)]
+        if case.name not in ("read", "line"):
+            lent += [self.table.lend(case.table), len(case.table)]
+        else:
+            self.table.lend(case.table)
+        array = struct.pack(f"={case.room}Q", *unwritten(case.room))
+        answer = [self.answer.lend(array), case.room]
+        self.functions[case.name](*lent, *case.numbers, *answer)
+        text, text_kept = self.text.back()
+        table, table_kept = self.table.back()
+        array, answer_kept = self.answer.back()
+        wrong = []
+        if text != case.text:
+            wrong.append("the text is changed")
+        if not text_kept:
+            wrong.append("bytes around the text are changed")
+        if not table_kept:
+            wrong.append("bytes around the table are changed")
+        if not answer_kept:
+            wrong.append("bytes around the answer are changed")
+        return list(struct.unpack(f"={case.room}Q", array)), table, wrong
+
+
+def unwritten(room: int) -> list[int]:
+    """What stands in the array for the answer before the call."""
+    return [0xA5A5_A5A5_0000_0000 + i for i in range(room)]
+
+
+# --------------------------------------------------------------------------
+# The comparison
+# --------------------------------------------------------------------------
+
+
+class Comparison:
+    """What was called, and the differences found.
+
+    The case at work is kept in memory that the waiting process shares, so that
+    a crash or a hang can be told."""
+
+    def __init__(self, rng: random.Random, library: Library, shared: mmap.mmap) -> None:
+        self.rng = rng
+        self.library = library
+        self.shared = shared
+        self.widths = header_widths()
+        self.calls = 0
+        self.counts: collections.Counter[tuple[str, int | str]] = collections.Counter()
+        self.differences: list[Difference] = []
+
+    def room(self, width: int) -> int:
+        """How long an array is lent for an answer of that many numbers."""
+        way = self.rng.randrange(10)
+        if way < 5:
+            return width
+        if way < 8:
+            return width + self.rng.randint(1, 4)
+        return self.rng.randrange(width)
+
+    def call(
+        self, name: str, text: bytes, table: bytes, numbers: tuple[int, ...]
+    ) -> tuple[list[int], bytes]:
+        """Make a call with an array of some length; what the model gives."""
+        case = Case(name, text, table, numbers, self.room(self.widths[name]))
+        return self.compare(case)
+
+    def compare(self, case: Case) -> tuple[list[int], bytes]:
+        """Make one call of both and compare them; what the model gives."""
+        self.calls += 1
+        keep(self.shared, self.calls, case)
+        answer, after = model(case)
+        array, table, wrong = self.library.call(case)
+        if len(answer) != self.widths.get(case.name):
+            wrong.append("the header has another count of numbers")
+        if array != (answer + unwritten(case.room)[len(answer) :])[: case.room]:
+            wrong.append("another answer")
+        if table != after:
+            at = next(i for i, (a, b) in enumerate(zip(table, after)) if a != b)
+            wrong.append(f"byte {at} of the table is {table[at]} and not {after[at]}")
+        if wrong:
+            self.differences.append(Difference(case, answer, array, wrong))
+        self.count(case.name, answer)
+        return answer, after
+
+    def count(self, name: str, answer: list[int]) -> None:
+        """Count the call, and what it said."""
+        if name == "line":
+            self.counts[name, "part" if answer[1] > 0 else "empty"] += 1
+            return
+        self.counts[name, answer[0]] += 1
+        if answer[0] == 0 and name in TOLD:
+            word = TOLD[name][0].split()[0]
+            own = answer[4] if name == "offer" else answer[2]
+            self.counts[name, f"{word} {own}"] += 1
+
+    def missing(self) -> Iterator[str]:
+        """What should have come and never did."""
+        for name, numbers in QUESTIONS.items():
+            for number in numbers:
+                if self.counts[name, number] == 0:
+                    told = f"refused with {number}" if number else "accepted"
+                    yield f"{name} was never {told}"
+        for name, words in TOLD.items():
+            for word in words:
+                if self.counts[name, word] == 0:
+                    yield f"{name}: never {word}"
+
+    def show(self) -> None:
+        """Print the counts, and the differences with the shortest texts."""
+        for name in ["read", "line", *tables.NUMBERS]:
+            said = {key: n for (of, key), n in self.counts.items() if of == name}
+            numbers = sorted(key for key in said if isinstance(key, int))
+            words = sorted(key for key in said if isinstance(key, str))
+            parts = [f"{key}: {said[key]}" for key in [*numbers, *words]]
+            print(f"{name}: {', '.join(parts)}")
+        self.differences.sort(key=lambda one: (len(one.case.text), len(one.case.table)))
+        for difference in self.differences[:SHOWN]:
+            difference.show()
+
+
+def keep(shared: mmap.mmap, calls: int, case: Case) -> None:
+    """Note the case at work where the waiting process finds it."""
+    head = json.dumps([case.name, len(case.text), case.numbers, case.room]).encode()
+    noted = head + b"\n" + case.text + case.table
+    shared[:16] = calls.to_bytes(8, "little") + len(noted).to_bytes(8, "little")
+    shared[16 : 16 + len(noted)] = noted
+
+
+def kept(shared: mmap.mmap) -> tuple[int, Case | None]:
+    """How many calls were begun, and the last of them."""
+    calls, length = (int.from_bytes(shared[i : i + 8], "little") for i in (0, 8))
+    if length == 0:
+        return calls, None
+    head, _, data = shared[16 : 16 + length].partition(b"\n")
+    name, size, numbers, room = json.loads(head)
+    return calls, Case(name, data[:size], data[size:], tuple(numbers), room)
+
+
+# --------------------------------------------------------------------------
+# Lists of calls
+# --------------------------------------------------------------------------
+
+
+class Play:
+    """A job, and a table on which a list of calls goes on."""
+
+    def __init__(self, comparison: Comparison, picture: generate.Picture) -> None:
+        self.rng = comparison.rng
+        self.comparison = comparison
+        self.picture = picture
+        self.text = picture.text()
+        self.job = checker.parse(self.text)
+        self.table = tables.fresh_table(self.job)
+        self.handed: list[tuple[int, int, int]] = []
+        self.bad: list[bytes] = []
+
+    def call(self, name: str, *numbers: int, text: bytes | None = None) -> list[int]:
+        """A call on the table, which goes on; the answer."""
+        passed = self.text if text is None else text
+        answer, self.table = self.comparison.call(name, passed, self.table, numbers)
+        return answer
+
+    def aside(self, name: str, table: bytes, *numbers: int) -> None:
+        """A call on another table."""
+        self.comparison.call(name, self.text, table, numbers)
+
+    def spoilt(self) -> bytes:
+        """A text that is not the job's: damaged, or another job's."""
+        if not self.bad:
+            found = [one.text for one in damaged.damages(self.rng, self.picture)]
+            self.bad = self.rng.sample(found, min(12, len(found)))
+            self.bad += damaged.flips(self.rng, self.text, 4)
+            self.bad += damaged.scribbles(self.rng, self.picture, 4)
+            self.bad += damaged.noise(self.rng, 1)
+            self.bad += [b"", self.text + b"\n", self.text + bytes(2**16)]
+        return self.rng.choice(self.bad)
+
+    def numbers(self, name: str) -> tuple[int, ...]:
+        """Numbers for a call on a table, sometimes far out of range."""
+        found = list(tables.any_numbers(self.rng, self.job, name))
+        if name == "accept" and found[-1] > 255:
+            found[-1] = self.rng.choice([2, 3, 254, 255])
+        places = len(found) - (name == "accept")
+        if places and self.rng.randrange(12) == 0:
+            at = self.rng.randrange(places)
+            near = [found[at] + 2**32, found[at] + 2**8, 2**64 - 1 - found[at]]
+            found[at] = self.rng.choice([*HUGE, *near])
+        return tuple(found)
+
+    def line(self, text: bytes | None = None) -> None:
+        """The call line, at the ends and anywhere."""
+        last = len(self.picture.lines())
+        ends = [0, 1, 2, last, last + 1, last + 2]
+        number = self.rng.choice([*ends, *HUGE, 2**32 + last])
+        if self.rng.randrange(2):
+            number = self.rng.randint(1, last)
+        self.call("line", number, text=text)
+
+    def nuisance(self) -> None:
+        """A call that is not the list's: with another text or another table, or
+        one that would end the list or fill a cell with a lie, set aside."""
+        name = self.rng.choice([*tables.NUMBERS])
+        way = self.rng.randrange(6)
+        if way == 0:
+            text = self.spoilt()
+            self.call(name, *self.numbers(name), text=text)
+            self.call("read", text=text)
+            self.line(text=text)
+        elif way == 1:
+            other = tables.wrong_length_table(self.rng, self.job)
+            if self.rng.randrange(4) == 0:
+                other = self.table + bytes([EMPTY]) * 2**16
+            self.aside(name, other, *self.numbers(name))
+        elif way == 2:
+            other = tables.bad_table(self.rng, self.job)
+            self.aside(name, other, *self.numbers(name))
+        elif way == 3:
+            self.line()
+        elif name in ("step", "offer", "look", "close"):
+            self.call(name, *self.numbers(name))
+        else:
+            self.aside(name, self.table, *self.numbers(name))
+
+    # ---- honest lists
+
+    def begin(self) -> None:
+        """Read the job, and make a table fresh that held anything."""
+        self.call("read")
+        self.table = self.rng.randbytes(self.job.size())
+        self.call("fresh")
+
+    def step(self) -> int:
+        """The step of some node; how many cells it filled."""
+        return self.call("step", self.rng.randrange(self.job.sizes.nodes))[2]
+
+    def offer(self) -> None:
+        """Have a message handed out, if the owner knows."""
+        if not self.job.temporal():
+            return
+        answer = self.call(
+            "offer",
+            self.rng.randrange(self.job.sizes.states),
+            self.rng.choice(self.job.temporal()),
+        )
+        if answer[0] == 0:
+            self.handed.append(tuple(answer[2:]))
+
+    def deliver(self) -> int:
+        """Deliver any message that was handed out, old or new, perhaps again;
+        how many cells it filled."""
+        if not self.handed:
+            return 0
+        message = self.rng.choice(self.handed)
+        near = [n for n, border in enumerate(self.job.border) if message[0] in border]
+        if not near:
+            return 0
+        return self.call("accept", self.rng.choice(near), *message)[2]
+
+    def settle(self, turns: int) -> bool:
+        """Step all nodes and deliver what owners know, in any order, until
+        nothing is filled, for so many turns at most; whether that came."""
+        for _ in range(turns):
+            filled = 0
+            nodes = list(range(self.job.sizes.nodes))
+            self.rng.shuffle(nodes)
+            for node in nodes:
+                filled += self.call("step", node)[2]
+            wanted = checker.copies(self.job, self.table, self.job.temporal())
+            self.rng.shuffle(wanted)
+            for node, state, formula, _ in wanted:
+                answer = self.call("offer", state, formula)
+                message = tuple(answer[2:])
+                self.handed.append(message)
+                filled += self.call("accept", node, *message)[2]
+                if self.rng.randrange(8) == 0:
+                    self.deliver()
+            if filled == 0:
+                return True
+        return False
+
+    def honest(self, turns: int, stray: int) -> None:
+        """The workers' way from a fresh table to a full one, with calls astray
+        in between."""
+        self.begin()
+        for _ in range(turns):
+            for _ in range(self.rng.randrange(stray)):
+                way = self.rng.randrange(8)
+                if way < 2:
+                    self.step()
+                elif way < 4:
+                    self.offer()
+                elif way < 6:
+                    self.deliver()
+                elif way < 7:
+                    self.call("look", *self.numbers("look"))
+                else:
+                    self.nuisance()
+            if self.rng.randrange(3) == 0:
+                self.call("close")
+            if self.settle(turns) and self.call("close")[0] == 20:
+                break
+            if self.rng.randrange(40) == 0:
+                self.call("fresh")
+        for name in ("finish", "close", "finish"):
+            self.call(name)
+        self.call("look", self.job.owner[0], 0, self.job.sizes.formulas - 1)
+
+    # ---- lists from any table
+
+    def wild(self, count: int) -> None:
+        """Any calls from any table, inconsistent ones too."""
+        self.table = tables.good_table(self.rng, self.text)
+        if self.rng.randrange(2):
+            self.table = tables.settled_table(self.text, self.table)
+            self.call("close")
+        for _ in range(count):
+            way = self.rng.randrange(20)
+            if way == 0:
+                self.nuisance()
+                continue
+            if way == 1:
+                self.table = tables.good_table(self.rng, self.text)
+            name = self.rng.choice(
+                ["step"] * 4 + ["offer"] * 4 + ["accept"] * 5 + ["look"] * 4
+                + ["close"] * 3 + ["finish", "fresh"] * (self.rng.randrange(8) == 0)
+            )  # fmt: skip
+            self.call(name, *self.numbers(name))
+
+    # ---- every refusal of a text
+
+    def refusals(self) -> None:
+        """Each of questions 1 to 8 failing, in every call, on a good table."""
+        found: dict[int, list[bytes]] = collections.defaultdict(list)
+        for damage in damaged.damages(self.rng, self.picture):
+            found[damage.number].append(damage.text)
+        self.table = tables.good_table(self.rng, self.text)
+        for number in sorted(found):
+            for name in tables.NUMBERS:
+                text = self.rng.choice(found[number])
+                self.call(name, *self.numbers(name), text=text)
+            for text in self.rng.sample(found[number], min(3, len(found[number]))):
+                self.call("read", text=text)
+                self.line(text=text)
+        for name in tables.NUMBERS:
+            for other in (tables.wrong_length_table, tables.bad_table):
+                self.aside(name, other(self.rng, self.job), *self.numbers(name))
+
+    # ---- two jobs, one table
+
+    def recut(self, count: int) -> None:
+        """Calls with the texts of two cuttings of one structure by turns: one
+        table fits both in length, and each says something else about it."""
+        nodes = self.job.sizes.nodes
+        other = generate.owners(self.rng, len(self.picture.owner), nodes)
+        text = replace(self.picture, owner=other).text()
+        for _ in range(count):
+            name = self.rng.choice(["step", "step", "offer", "accept", "look", "close"])
+            self.call(name, *self.numbers(name), text=self.rng.choice([None, text]))
+
+
+def large_list(play: Play) -> None:
+    """A few calls of every name on a large job, from a fresh table and from any."""
+    play.begin()
+    for _ in range(4):
+        play.step()
+        play.offer()
+        play.deliver()
+        play.call("look", *play.numbers("look"))
+        play.nuisance()
+        play.line()
+    play.call("close")
+    play.call("finish")
+    play.call("close")
+    play.wild(8)
+
+
+def large_lists(comparison: Comparison) -> None:
+    """Jobs at the limits: every size at its end, all of them in the first."""
+    rng = comparison.rng
+    for picture in (
+        generate.full(rng),
+        generate.zigzag(256, 5, 8),
+        generate.picture(rng, 256, 4, 8, exact=True),
+        generate.picture(rng, 40, 32, 8, exact=True),
+    ):
+        large_list(Play(comparison, picture))
+    Play(comparison, generate.cut_ring(checker.EU, 256, 4, False)).honest(4, 12)
+    Play(comparison, generate.tangled(rng, 256, 8, 8)).honest(3, 12)
+
+
+def small_lists(comparison: Comparison, i: int) -> None:
+    """The i-th draw of small jobs."""
+    rng = comparison.rng
+    until, negated = rng.choice([checker.AU, checker.EU]), rng.random() < 0.5
+    ring = generate.cut_ring(until, rng.randint(2, 12), rng.randint(3, 9), negated)
+    Play(comparison, ring).honest(10, 12)
+    Play(comparison, generate.tangled(rng, 8, 10, 4)).honest(8, 12)
+    Play(comparison, generate.picture(rng, 6, 8, 4)).honest(6, 12)
+    Play(comparison, generate.picture(rng)).wild(60)
+    Play(comparison, generate.tangled(rng, 6, 9, 4)).wild(60)
+    Play(comparison, generate.picture(rng, 6, 8, 3)).recut(30)
+    if i % 8 == 0:
+        Play(comparison, generate.picture(rng, 5, 6, 3, exact=True)).refusals()
+    if i % 4 == 2:
+        long = generate.zigzag(rng.randint(3, 16), rng.randint(4, 9), rng.randint(2, 8))
+        Play(comparison, long).honest(2, 12)
+    if i % 8 == 4:
+        Play(comparison, generate.tangled(rng, 40, 20, 8)).honest(3, 12)
+
+
+def lists(comparison: Comparison, count: int) -> None:
+    """All lists: small jobs, and now and then the large ones."""
+    for i in range(count):
+        if i % 100 == 0:
+            large_lists(comparison)
+        small_lists(comparison, i)
+
+
+# --------------------------------------------------------------------------
+# The worked example in C
+# --------------------------------------------------------------------------
+
+
+def service_says(text: bytes) -> tuple[str, int]:
+    """What examples/service.c must print, and its exit status: the same calls
+    of the model."""
+    number, at, states, _, formulas, nodes = checker.read(text)
+    if number != 0:
+        part = checker.line(text, at).decode("latin-1")
+        shown = f": '{part}'" if part else ""
+        return f"read is refused: {number}, line {at}{shown}\n", 2
+    _, table = checker.fresh(text, bytes(nodes * states * formulas))
+    told: set[tuple[int, int]] = set()
+    steps = messages = closes = filled = 0
+    while True:
+        turn = 0
+        for node in range(nodes):
+            answer, table = checker.step(text, table, node)
+            steps += 1
+            turn += answer[2]
+        for state in range(states):
+            for formula in range(formulas):
+                answer, _ = checker.offer(text, table, state, formula)
+                if answer[0] != 0 or (state, formula) in told:
+                    continue
+                told.add((state, formula))
+                for node in range(nodes):
+                    got, table = checker.accept(text, table, node, *answer[2:])
+                    messages += got[0] == 0
+                    turn += got[2]
+        if turn == 0:
+            answer, table = checker.close(text, table)
+            closes += answer[0] == 0
+            turn = answer[3]
+        filled += turn
+        if turn == 0:
+            break
+    verdict = checker.finish(text, table)[0][2]
+    done = f"{filled} cells, {steps} steps, {messages} messages, {closes} closes"
+    return f"{'yes' if verdict else 'no'}: {done}\n", 0 if verdict else 1
+
+
+def service_wrong(
+    rng: random.Random, archive: str, where: pathlib.Path
+) -> Iterator[str]:
+    """Compile the example and run it on jobs, damaged ones among them."""
+    strict = ["-std=c99", "-pedantic", "-Wall", "-Wextra", "-Werror"]
+    include = f"-I{HEADER.parent}"
+    program = compiled([*strict, include, str(SERVICE), archive], where / "service")
+    texts = [path.read_bytes() for path in sorted(SERVICE.parent.glob("*.job"))]
+    for _ in range(6):
+        job = generate.tangled(rng, 6, 10, 4)
+        texts += [job.text(), generate.picture(rng).text(), damaged.spoilt(rng, job)]
+    for text in texts:
+        (where / "job").write_bytes(text)
+        command = [program, where / "job"]
+        run = subprocess.run(command, capture_output=True, timeout=SECONDS)
+        said = run.stdout.decode("latin-1"), run.returncode
+        if said != service_says(text):
+            yield f"the service says {said}, the model {service_says(text)}"
+            show_text(text)
+
+
+# --------------------------------------------------------------------------
+# The program
+# --------------------------------------------------------------------------
+
+
+def work(chosen: argparse.Namespace, where: pathlib.Path, shared: mmap.mmap) -> int:
+    """All calls, in a process that may crash."""
+    began = time.time()
+    rng = random.Random(chosen.seed)
+    comparison = Comparison(rng, Library(chosen.archive, where), shared)
+    if chosen.replay:
+        comparison.compare(Case.read(chosen.replay))
+        for difference in comparison.differences:
+            difference.show()
+        print(f"{len(comparison.differences)} differ")
+        return 1 if comparison.differences else 0
+    lists(comparison, chosen.count)
+    comparison.show()
+    wrong = [*comparison.missing(), *header_wrong()]
+    wrong += service_wrong(rng, chosen.archive, where)
+    for what in wrong:
+        print(f"WRONG: {what}")
+    print(
+        f"{comparison.calls} calls, {len(comparison.differences)} differ; "
+        f"{time.time() - began:.0f} s"
+    )
+    return 1 if comparison.differences or wrong else 0
+
+
+def watch(child: int, shared: mmap.mmap) -> int:
+    """Wait for the process at work; tell the call in which it crashed or hung."""
+    calls, since = 0, time.time()
+    while True:
+        ended, status = os.waitpid(child, os.WNOHANG)
+        if ended and os.WIFEXITED(status):
+            return os.WEXITSTATUS(status)
+        now, case = kept(shared)
+        if now != calls:
+            calls, since = now, time.time()
+        if ended or time.time() - since > SECONDS:
+            if not ended:
+                os.kill(child, 9)
+                os.waitpid(child, 0)
+            how = f"signal {os.WTERMSIG(status)}" if ended else f"no end in {SECONDS} s"
+            if case is not None:
+                Difference(case, model(case)[0], [], [how]).show()
+            print(f"{calls} calls; the last one: {how}")
+            return 1
+        time.sleep(0.05)
+
+
+def main() -> int:
+    """The program."""
+    options = argparse.ArgumentParser(description=__doc__)
+    options.add_argument("archive")
+    options.add_argument("--seed", type=int, default=1)
+    options.add_argument("--count", type=int, default=200)
+    options.add_argument("--replay")
+    chosen = options.parse_args()
+    shared = mmap.mmap(-1, 2**20)
+    with tempfile.TemporaryDirectory() as where:
+        sys.stdout.flush()
+        child = os.fork()
+        if child == 0:
+            status = 1
+            try:
+                status = work(chosen, pathlib.Path(where), shared)
+            except BaseException:
+                traceback.print_exc()
+            sys.stdout.flush()
+            os._exit(status)
+        return watch(child, shared)
+
+
+if __name__ == "__main__":
+    sys.exit(main())
