@@ -16,7 +16,8 @@ use Rattle.ctl.specs.Labelling.{reached}
 use Rattle.ctl.proofs.Reached.{reached-state}
 use Rattle.cells.specs.Fragment.{owns, inFragment, border}
 use Rattle.cells.specs.SetRule.{SetRule, smallest, bySets}
-use Rattle.cells.proofs.Sets.{Joins, already, starts, grows, smallest-is}
+use Rattle.cells.specs.Sets.{Joins, already, starts, grows}
+use Rattle.cells.proofs.Sets.{smallest-is}
 use Rattle.cells.proofs.Repeat.{bySets-at}
 use Rattle.job.proofs.Successors.{over-within}
 use Rattle.cells.proofs.FragmentLaws.{owns-bound, owns-owner, owned-inside, next-inside, fragment-bound, edge-bound, inner-owned, outer-border, owner-owns}

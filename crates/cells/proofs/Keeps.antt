@@ -21,7 +21,8 @@ use Rattle.cells.specs.Fragment.{inner}
 use Rattle.cells.specs.Table.{isEmpty}
 use Rattle.cells.specs.SetRule.{SetRule, smallest, largest, bySets}
 use Rattle.cells.specs.Step.{opposite, both, next, column}
-use Rattle.cells.proofs.Sets.{Joins, already, starts, grows, Stays, other, blocked, follows, smallest-is, largest-is, largest-apart}
+use Rattle.cells.specs.Sets.{Joins, already, starts, grows, Stays, other, blocked, follows}
+use Rattle.cells.proofs.Sets.{smallest-is, largest-is, largest-apart}
 use Rattle.cells.proofs.Repeat.{bySets-at}
 use Rattle.job.proofs.Successors.{over-within, over-share}
 use Rattle.cells.proofs.FragmentLaws.{edge-bound}

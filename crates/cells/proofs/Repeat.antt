@@ -18,7 +18,8 @@ use Rattle.cells.specs.Fragment.{inFragment, edgeOut, inner}
 use Rattle.cells.specs.Table.{isEmpty}
 use Rattle.cells.specs.SetRule.{SetRule, smallest, largest, bySets}
 use Rattle.cells.proofs.Fill.{is-empty, not-empty}
-use Rattle.cells.proofs.Sets.{Joins, already, starts, grows, smallest-is, Stays, other, blocked, follows, stays-monotone, stays-intro, stays-reason, largest-is}
+use Rattle.cells.specs.Sets.{Joins, already, starts, grows, Stays, other, blocked, follows}
+use Rattle.cells.proofs.Sets.{smallest-is, stays-monotone, stays-intro, stays-reason, largest-is}
 
 pub inner-inside : (J : Job) (n s : ℕ) → inner J n s ≡ true → inFragment J n s ≡ true
 unfolding inner

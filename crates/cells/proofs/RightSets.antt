@@ -11,7 +11,8 @@ use Rattle.law.proofs.Bool.{split, clash}
 use Rattle.job.specs.Job.{Job, Quantifier, size, over}
 use Rattle.ctl.specs.Labelling.{reached}
 use Rattle.cells.specs.SetRule.{SetRule, smallest, largest, bySets}
-use Rattle.cells.proofs.Sets.{Joins, already, starts, grows, Stays, other, blocked, follows, smallest-is, largest-is}
+use Rattle.cells.specs.Sets.{Joins, already, starts, grows, Stays, other, blocked, follows}
+use Rattle.cells.proofs.Sets.{smallest-is, largest-is}
 use Rattle.cells.proofs.Repeat.{bySets-at}
 use Rattle.job.proofs.Successors.{over-within, over-share}
 use Rattle.ctl.proofs.Reached.{reached-start, reached-grow, reached-state}

@@ -1,7 +1,5 @@
--- The two sets of a set rule are what document 01, "Step of one node", says: the smallest set with one property, the largest
--- with another. `Joins` and `Stays` say those properties of one state in its words, `IsSmallest` and `IsLargest` of a set of
--- states; `smallest-is` and `largest-is` show them of the sets that are computed. Assumes nothing.
-use Prim.Native.Nat.{ℕ, _-_, _<_, _≤_}
+-- The two sets of a set rule, as they are computed, are the smallest and the largest of `specs/Sets.antt`. Assumes nothing.
+use Prim.Native.Nat.{ℕ, _-_, _≤_}
 use mathlib.Core.Path.{_≡_, refl}
 use mathlib.Core.Bool.{Bool, true, false, not, _&&_, _||_}
 use mathlib.Core.List.{List}
@@ -18,20 +16,9 @@ use Rattle.job.proofs.Successors.{over-mono}
 use Rattle.cells.specs.Fragment.{border, inner}
 use Rattle.cells.specs.Table.{isEmpty}
 use Rattle.cells.specs.SetRule.{SetRule, joins, smallest, stays, largest}
+use Rattle.cells.specs.Sets.{Joins, already, starts, grows, IsSmallest, Stays, other, blocked, follows, IsLargest}
 
 module _ (J : Job) (n : ℕ) (own : ℕ → ℕ) (R : SetRule) where
-  -- "the smallest set holding those already true, those with b true, and those with a true and all successors in the set": why
-  -- a state is in the set X. Border states join only by their own value.
-  pub data Joins (X : ℕ → Bool) (s : ℕ) : Type 0 where
-    already : own s ≡ R .value → Joins X s
-    starts : own s ≡ 2 → inner J n s ≡ true → R .start s ≡ 1 → Joins X s
-    grows :
-        own s ≡ 2
-        → inner J n s ≡ true
-        → R .grow s ≡ 1
-        → over (J .structure) (R .quantifier) s X ≡ true
-        → Joins X s
-
   pub joins-monotone : Monotone (joins J n own R)
   unfolding joins
   joins-monotone X Y inside s =
@@ -45,7 +32,7 @@ module _ (J : Job) (n : ℕ) (own : ℕ → ℕ) (R : SetRule) where
       (or-mono b (a && over M q s X) (a && over M q s Y)
       (and-mono a (over M q s X) (over M q s Y) (over-mono M q s X Y inside))))
 
-  pub joins-intro : (X : ℕ → Bool) (s : ℕ) → Joins X s → joins J n own R X s ≡ true
+  pub joins-intro : (X : ℕ → Bool) (s : ℕ) → Joins J n own R X s → joins J n own R X s ≡ true
   unfolding joins isEmpty
   joins-intro X s (already v) = simp (eq-eqb (own s) (R .value) v)
   joins-intro X s (starts e i b) =
@@ -54,7 +41,7 @@ module _ (J : Job) (n : ℕ) (own : ℕ → ℕ) (R : SetRule) where
       or-right (eqb (own s) (R .value)) _
       (simp (eq-eqb (own s) 2 e, i, eq-eqb (R .grow s) 1 a, o) (or-right (eqb (R .start s) 1) true refl))
 
-  pub joins-reason : (X : ℕ → Bool) (s : ℕ) → joins J n own R X s ≡ true → Joins X s
+  pub joins-reason : (X : ℕ → Bool) (s : ℕ) → joins J n own R X s ≡ true → Joins J n own R X s
   unfolding joins isEmpty
   joins-reason X s h =
       let b = eqb (R .start s) 1 in
@@ -73,57 +60,33 @@ module _ (J : Job) (n : ℕ) (own : ℕ → ℕ) (R : SetRule) where
       (or-cases b (a && o) (and-right (e && i) (b || (a && o)) w)))
       (or-cases (eqb (own s) (R .value)) (e && i && (b || (a && o))) h)
 
-  -- The set X of states is the smallest that holds each state that joins it.
-  pub record IsSmallest (X : ℕ → Bool) : Type 0 where
-    pub states : (s : ℕ) → X s ≡ true → s < size J
-    pub joined : (s : ℕ) → s < size J → Joins X s → X s ≡ true
-    pub reason : (s : ℕ) → X s ≡ true → Joins X s
-    -- "the smallest set may hold no cell already filled with the other value"
-    pub no-other : (s : ℕ) → (own s ≡ R .value → ⊥) → (own s ≡ 2 → ⊥) → X s ≡ false
-    -- a border state, as every state that is not inner, "counts only by its own value"
-    pub border-value : (s : ℕ) → inner J n s ≡ false → X s ≡ true → own s ≡ R .value
-    pub within-each : (Y : ℕ → Bool) → ((s : ℕ) → s < size J → Joins Y s → Y s ≡ true) → (s : ℕ) → X s ≡ true → Y s ≡ true
+  joins-own : (X : ℕ → Bool) (s : ℕ) → (own s ≡ R .value → ⊥) → (own s ≡ 2 → ⊥) → Joins J n own R X s → ⊥
+  joins-own X s apart filled (already v) = apart v
+  joins-own X s apart filled (starts e i b) = filled e
+  joins-own X s apart filled (grows e i a o) = filled e
 
-  joins-own : (X : ℕ → Bool) (s : ℕ) → (own s ≡ R .value → ⊥) → (own s ≡ 2 → ⊥) → Joins X s → ⊥
-  joins-own X s other filled (already v) = other v
-  joins-own X s other filled (starts e i b) = filled e
-  joins-own X s other filled (grows e i a o) = filled e
-
-  joins-border : (X : ℕ → Bool) (s : ℕ) → inner J n s ≡ false → Joins X s → own s ≡ R .value
+  joins-border : (X : ℕ → Bool) (s : ℕ) → inner J n s ≡ false → Joins J n own R X s → own s ≡ R .value
   joins-border X s border (already v) = v
   joins-border X s border (starts e i b) = clash (inner J n s) i border
   joins-border X s border (grows e i a o) = clash (inner J n s) i border
 
-  pub smallest-is : IsSmallest (member (smallest J n own R))
+  pub smallest-is : IsSmallest J n own R (member (smallest J n own R))
   unfolding smallest
   smallest-is =
       let r = joins J n own R in
       let L = member (least r (size J)) in
-      let reason : (s : ℕ) → L s ≡ true → Joins L s = λ s e. joins-reason L s (least-rule r (size J) joins-monotone s e) in
+      let reason : (s : ℕ) → L s ≡ true → Joins J n own R L s = λ s e. joins-reason L s (least-rule r (size J) joins-monotone s e) in
       record {
         states = least-bound r (size J);
         joined = λ s l why. least-closed r (size J) joins-monotone s l (joins-intro L s why);
         reason = reason;
-        no-other = λ s other filled. split (L s) (λ e. absurd (joins-own L s other filled (reason s e))) (λ f. f);
+        no-other = λ s apart filled. split (L s) (λ e. absurd (joins-own L s apart filled (reason s e))) (λ f. f);
         border-value = λ s border e. joins-border L s border (reason s e);
         within-each =
             λ Y closed. least-inside r (size J) joins-monotone Y (λ s l h. closed s l (joins-reason Y s h));
       }
 
 module _ (J : Job) (n : ℕ) (own : ℕ → ℕ) (R : SetRule) (L : List Bool) where
-  -- "the largest set of cells each already false, or with b false and either a false or some successor in the set", and "no cell
-  -- of the smallest", L: why a state is in the set X.
-  pub data Stays (X : ℕ → Bool) (s : ℕ) : Type 0 where
-    other : own s ≡ 1 - R .value → Stays X s
-    blocked : own s ≡ 2 → member L s ≡ false → inner J n s ≡ true → R .start s ≡ 0 → R .grow s ≡ 0 → Stays X s
-    follows :
-        own s ≡ 2
-        → member L s ≡ false
-        → inner J n s ≡ true
-        → R .start s ≡ 0
-        → over (J .structure) (dual (R .quantifier)) s X ≡ true
-        → Stays X s
-
   pub stays-monotone : Monotone (stays J n own R L)
   unfolding stays
   stays-monotone X Y inside s =
@@ -135,7 +98,7 @@ module _ (J : Job) (n : ℕ) (own : ℕ → ℕ) (R : SetRule) (L : List Bool) w
       (and-mono free (a || over M q s X) (a || over M q s Y)
       (or-mono a (over M q s X) (over M q s Y) (over-mono M q s X Y inside)))
 
-  pub stays-intro : (X : ℕ → Bool) (s : ℕ) → Stays X s → stays J n own R L X s ≡ true
+  pub stays-intro : (X : ℕ → Bool) (s : ℕ) → Stays J n own R L X s → stays J n own R L X s ≡ true
   unfolding stays isEmpty
   stays-intro X s (other v) = simp (eq-eqb (own s) (1 - R .value) v)
   stays-intro X s (blocked e l i b a) =
@@ -145,7 +108,7 @@ module _ (J : Job) (n : ℕ) (own : ℕ → ℕ) (R : SetRule) (L : List Bool) w
       or-right (eqb (own s) (1 - R .value)) _
       (simp (eq-eqb (own s) 2 e, l, i, eq-eqb (R .start s) 0 b, o) (or-right (eqb (R .grow s) 0) true refl))
 
-  pub stays-reason : (X : ℕ → Bool) (s : ℕ) → stays J n own R L X s ≡ true → Stays X s
+  pub stays-reason : (X : ℕ → Bool) (s : ℕ) → stays J n own R L X s ≡ true → Stays J n own R L X s
   unfolding stays isEmpty
   stays-reason X s h =
       let a = eqb (R .grow s) 0 in
@@ -170,32 +133,17 @@ module _ (J : Job) (n : ℕ) (own : ℕ → ℕ) (R : SetRule) (L : List Bool) w
       (or-cases a o (and-right (e && l && i && b) (a || o) w)))
       (or-cases (eqb (own s) (1 - R .value)) (e && l && i && b && (a || o)) h)
 
-  -- The set X of states is the largest whose states all stay in it.
-  pub record IsLargest (X : ℕ → Bool) : Type 0 where
-    pub states : (s : ℕ) → X s ≡ true → s < size J
-    pub reason : (s : ℕ) → X s ≡ true → Stays X s
-    pub stayed : (s : ℕ) → s < size J → Stays X s → X s ≡ true
-    -- a border state, as every state that is not inner, "counts only by its own value"
-    pub border-value : (s : ℕ) → inner J n s ≡ false → X s ≡ true → own s ≡ 1 - R .value
-    pub holds-each :
-        (Y : ℕ → Bool)
-        → ((s : ℕ) → Y s ≡ true → s < size J)
-        → ((s : ℕ) → Y s ≡ true → Stays Y s)
-        → (s : ℕ)
-        → Y s ≡ true
-        → X s ≡ true
-
-  stays-border : (X : ℕ → Bool) (s : ℕ) → inner J n s ≡ false → Stays X s → own s ≡ 1 - R .value
+  stays-border : (X : ℕ → Bool) (s : ℕ) → inner J n s ≡ false → Stays J n own R L X s → own s ≡ 1 - R .value
   stays-border X s border (other v) = v
   stays-border X s border (blocked e l i b a) = clash (inner J n s) i border
   stays-border X s border (follows e l i b o) = clash (inner J n s) i border
 
-  pub largest-is : IsLargest (member (largest J n own R L))
+  pub largest-is : IsLargest J n own R L (member (largest J n own R L))
   unfolding largest
   largest-is =
       let r = stays J n own R L in
       let G = member (greatest r (size J)) in
-      let reason : (s : ℕ) → G s ≡ true → Stays G s =
+      let reason : (s : ℕ) → G s ≡ true → Stays J n own R L G s =
       λ s e. stays-reason G s (greatest-supported r (size J) stays-monotone s e) in
       record {
         states = greatest-bound r (size J);

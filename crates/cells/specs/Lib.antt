@@ -1,6 +1,7 @@
 pub mod Fragment
 pub mod Table
 pub mod SetRule
+pub mod Sets
 pub mod Step
 pub mod Close
 pub mod Rest

@@ -19,8 +19,8 @@ use Rattle.ctl.specs.Truth.{Holds}
 use Rattle.cells.specs.Fragment.{inFragment}
 use Rattle.cells.specs.Table.{Table, cell, filled}
 use Rattle.cells.specs.SetRule.{SetRule, smallest, largest}
+use Rattle.cells.specs.Sets.{IsSmallest, IsLargest}
 use Rattle.cells.specs.Step.{column}
-use Rattle.cells.proofs.Sets.{IsSmallest, IsLargest}
 
 -- The text is that of a job: "the job layout".
 pub record JobText (x : Text) : Type 0 where
