@@ -48,7 +48,7 @@ module _ (l : Lent) (x : Text) where
   abbrev table : Table → RefT (List ℕ)
   table t = at-last (l .table) t
 
-  -- The call with text x and table t may answer a and leave table u: its function's contract promises no more. What is lent to
+  -- The call with text x and table t may answer a and leave table u: the contract of its function holds of these. What is lent to
   -- offer and look can only be read, so it stays.
   unfoldable pub Happens : Call → Table → Answer → Table → Type 0
   Happens fresh t a u =

@@ -15,7 +15,7 @@ use Rattle.job.specs.Read.{unless, header, readAnswer, lineStart, lineLength, l
 use Rattle.cells.specs.Table.{Table}
 use Rattle.cells.specs.Questions.{Question}
 use Rattle.cells.specs.Calls.{Call, fresh, step, offer, accept, look, close, finish, width, told, refusal, answerUnless, answer}
-use Rattle.selahmur.specs.Stored.{stored}
+use Rattle.selahmur.specs.Stored.{stored, storedAnswer}
 use Rattle.selahmur.proofs.StoredLaws.{stored-front}
 
 pub stored-told : (out : List ℕ) {last : List ℕ} {a b : Answer} → a ≡ b → last ≡ stored out (numbers a) → last ≡ stored out (numbers b)
@@ -43,7 +43,7 @@ answer-width c x t = width-unless (refusal c x t) c x t
 
 -- so an array with room for that many begins with the answer, all of it
 pub answer-stored : (c : Call) (x : Text) (t : Table) (out : List ℕ) → 2 + width c ≤ length out
-    → take (2 + width c) (stored out (numbers (answer c x t))) ≡ numbers (answer c x t)
+    → take (2 + width c) (storedAnswer out c x t) ≡ numbers (answer c x t)
 answer-stored c x t out room =
     let ns = numbers (answer c x t) in
     let w = answer-width c x t in

@@ -1,9 +1,17 @@
 -- What a function of this crate leaves in the array that its caller lends for the answer. Assumes nothing.
 use Prim.Native.Nat.{ℕ}
 use mathlib.Core.List.{List, [], _∷_}
+use Rattle.job.specs.Layout.{Text}
+use Rattle.job.specs.Answer.{numbers}
+use Rattle.cells.specs.Table.{Table}
+use Rattle.cells.specs.Calls.{Call, answer}
 
 -- The numbers from the front on: those that find no room are left out, and what lies behind them stays.
 unfoldable pub stored : List ℕ → List ℕ → List ℕ
 stored out [] = out
 stored [] (n ∷ ns) = []
 stored (o ∷ out) (n ∷ ns) = n ∷ stored out ns
+
+-- All numbers of a call's answer, stored: number, line, then its own.
+abbrev pub storedAnswer : List ℕ → Call → Text → Table → List ℕ
+storedAnswer out c x t = stored out (numbers (answer c x t))

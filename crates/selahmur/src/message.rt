@@ -1,8 +1,7 @@
 // The calls about messages: offer and accept. A refusal leaves every byte of the table.
 ghost use mathlib.Core.Path.{_≡_};
-ghost use Rattle.job.specs.Answer.{numbers};
-ghost use Rattle.cells.specs.Calls.{Call, answer, after};
-ghost use Rattle.selahmur.specs.Stored.{stored};
+ghost use Rattle.cells.specs.Calls.{Call, after};
+ghost use Rattle.selahmur.specs.Stored.{storedAnswer};
 use crate::store::store;
 use calls::accept::Delivered;
 use calls::accept::accept;
@@ -19,8 +18,7 @@ pub extern "C" fn selahmur_offer(
     subformula: usize,
     out: &mut [usize],
 )
-    ensures told { λ _.
-        ⌜ now (out .exit) ≡ stored (now (out .entry)) (numbers (answer (Call.offer state subformula) (now (text .entry)) (now (table .entry)))) ⌝ }
+    ensures told { λ _. ⌜ now (out .exit) ≡ storedAnswer (now (out .entry)) (Call.offer state subformula) (now (text .entry)) (now (table .entry)) ⌝ }
     ensures left { λ _. ⌜ now (table .entry) ≡ after (Call.offer state subformula) (now (text .entry)) (now (table .entry)) ⌝ }
 {
     match offer(text, table, state, subformula) {
@@ -40,8 +38,7 @@ pub extern "C" fn selahmur_accept(
     value: u8,
     out: &mut [usize],
 )
-    ensures told { λ _.
-        ⌜ now (out .exit) ≡ stored (now (out .entry)) (numbers (answer (Call.accept node state subformula value) (now (text .entry)) (now (table .entry)))) ⌝ }
+    ensures told { λ _. ⌜ now (out .exit) ≡ storedAnswer (now (out .entry)) (Call.accept node state subformula value) (now (text .entry)) (now (table .entry)) ⌝ }
     ensures left { λ _. ⌜ now (table .exit) ≡ after (Call.accept node state subformula value) (now (text .entry)) (now (table .entry)) ⌝ }
 {
     let message = Message {

@@ -1,8 +1,7 @@
 // The calls on a table: fresh, step, look, close, finish. A refusal leaves every byte of it.
 ghost use mathlib.Core.Path.{_≡_};
-ghost use Rattle.job.specs.Answer.{numbers};
-ghost use Rattle.cells.specs.Calls.{Call, answer, after};
-ghost use Rattle.selahmur.specs.Stored.{stored};
+ghost use Rattle.cells.specs.Calls.{Call, after};
+ghost use Rattle.selahmur.specs.Stored.{storedAnswer};
 use crate::store::store;
 use calls::close::Closed;
 use calls::close::close;
@@ -18,7 +17,7 @@ use cells::fresh::fresh;
 // Makes every cell empty. No numbers of its own.
 #[no_mangle]
 pub extern "C" fn selahmur_fresh(text: &[u8], table: &mut [u8], out: &mut [usize])
-    ensures told { λ _. ⌜ now (out .exit) ≡ stored (now (out .entry)) (numbers (answer Call.fresh (now (text .entry)) (now (table .entry)))) ⌝ }
+    ensures told { λ _. ⌜ now (out .exit) ≡ storedAnswer (now (out .entry)) Call.fresh (now (text .entry)) (now (table .entry)) ⌝ }
     ensures left { λ _. ⌜ now (table .exit) ≡ after Call.fresh (now (text .entry)) (now (table .entry)) ⌝ }
 {
     match fresh(text, table) {
@@ -30,7 +29,7 @@ pub extern "C" fn selahmur_fresh(text: &[u8], table: &mut [u8], out: &mut [usize
 // The step of one node. Own number: how many cells are filled.
 #[no_mangle]
 pub extern "C" fn selahmur_step(text: &[u8], table: &mut [u8], node: usize, out: &mut [usize])
-    ensures told { λ _. ⌜ now (out .exit) ≡ stored (now (out .entry)) (numbers (answer (Call.step node) (now (text .entry)) (now (table .entry)))) ⌝ }
+    ensures told { λ _. ⌜ now (out .exit) ≡ storedAnswer (now (out .entry)) (Call.step node) (now (text .entry)) (now (table .entry)) ⌝ }
     ensures left { λ _. ⌜ now (table .exit) ≡ after (Call.step node) (now (text .entry)) (now (table .entry)) ⌝ }
 {
     match step(text, table, node) {
@@ -49,8 +48,7 @@ pub extern "C" fn selahmur_look(
     subformula: usize,
     out: &mut [usize],
 )
-    ensures told { λ _.
-        ⌜ now (out .exit) ≡ stored (now (out .entry)) (numbers (answer (Call.look node state subformula) (now (text .entry)) (now (table .entry)))) ⌝ }
+    ensures told { λ _. ⌜ now (out .exit) ≡ storedAnswer (now (out .entry)) (Call.look node state subformula) (now (text .entry)) (now (table .entry)) ⌝ }
     ensures left { λ _. ⌜ now (table .entry) ≡ after (Call.look node state subformula) (now (text .entry)) (now (table .entry)) ⌝ }
 {
     match look(text, table, node, state, subformula) {
@@ -62,7 +60,7 @@ pub extern "C" fn selahmur_look(
 // Makes the empty cells of the smallest open subformula 0, on a settled table. Own numbers: that subformula, how many cells are filled.
 #[no_mangle]
 pub extern "C" fn selahmur_close(text: &[u8], table: &mut [u8], out: &mut [usize])
-    ensures told { λ _. ⌜ now (out .exit) ≡ stored (now (out .entry)) (numbers (answer Call.close (now (text .entry)) (now (table .entry)))) ⌝ }
+    ensures told { λ _. ⌜ now (out .exit) ≡ storedAnswer (now (out .entry)) Call.close (now (text .entry)) (now (table .entry)) ⌝ }
     ensures left { λ _. ⌜ now (table .exit) ≡ after Call.close (now (text .entry)) (now (table .entry)) ⌝ }
 {
     match close(text, table) {
@@ -74,7 +72,7 @@ pub extern "C" fn selahmur_close(text: &[u8], table: &mut [u8], out: &mut [usize
 // Rounds until one fills nothing. Own numbers: the verdict, the rounds done, the cells filled.
 #[no_mangle]
 pub extern "C" fn selahmur_finish(text: &[u8], table: &mut [u8], out: &mut [usize])
-    ensures told { λ _. ⌜ now (out .exit) ≡ stored (now (out .entry)) (numbers (answer Call.finish (now (text .entry)) (now (table .entry)))) ⌝ }
+    ensures told { λ _. ⌜ now (out .exit) ≡ storedAnswer (now (out .entry)) Call.finish (now (text .entry)) (now (table .entry)) ⌝ }
     ensures left { λ _. ⌜ now (table .exit) ≡ after Call.finish (now (text .entry)) (now (table .entry)) ⌝ }
 {
     match finish(text, table) {
