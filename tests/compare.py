@@ -167,7 +167,7 @@ def antt_law(name: str, statement: str, proof: str, *unfolding: str) -> str:
 CASES_HEAD = """-- Written by compare.py: cases with the answers of the Python model.
 use Prim.Native.Nat.{ℕ}
 use mathlib.Core.List.{List, [], _∷_, map}
-use Rattle.job.specs.Layout.{Text}
+use Rattle.text.specs.Field.{Text}
 use Rattle.job.specs.Answer.{numbers}
 use Rattle.job.specs.Read.{readAnswer, lineOf}
 use Rattle.cells.specs.Table.{Table}
@@ -211,13 +211,15 @@ use mathlib.Core.Bool.{false}
 use mathlib.Core.List.{[], _∷_}
 use mathlib.Core.Option as opt
 use lib.Dec.{eqb}
-use Rattle.job.specs.Layout.{Text}
+use Rattle.text.specs.Field.{Text}
 use Rattle.job.specs.Job.{decode}
 use Rattle.job.specs.Answer.{accepted}
+use Rattle.job.specs.Question.{refusal}
+use Rattle.job.proofs.QuestionLaws.{answered-none, afterwards-none}
 use Rattle.cells.specs.Table.{Table, filled, emptyCells}
 use Rattle.cells.specs.Finish.{Finished, round, roundsFrom, verdict}
 use Rattle.cells.specs.Finish as finishing
-use Rattle.cells.specs.Calls.{finish, refusal, answer, after, answerUnless, afterUnless, told, left}
+use Rattle.cells.specs.Calls.{finish, questions, width, answer, after, told, left}
 
 abbrev finished : Table → ℕ → ℕ → Finished
 finished t r c = record { table = t; rounds = r; cells = c }
@@ -232,7 +234,7 @@ Rounds x n t u r c = roundsFrom (decode x) n t ≡ finished u r c
 
 -- What finish has to know besides.
 abbrev pub Asked : Text → Table → Table → ℕ → ℕ → Type 0
-Asked x t u n v = (refusal finish x t ≡ opt.none) × (emptyCells (decode x) t ≡ n) × (verdict (decode x) u ≡ v)
+Asked x t u n v = (refusal (questions finish x t) ≡ opt.none) × (emptyCells (decode x) t ≡ n) × (verdict (decode x) u ≡ v)
 
 abbrev pub Answer : Text → Table → Table → ℕ → ℕ → ℕ → Type 0
 Answer x t u v r c = (answer finish x t ≡ accepted (v ∷ r ∷ c ∷ [])) × (after finish x t ≡ u)
@@ -253,13 +255,13 @@ module _ (x : Text) where
   more-rounds n t u v r c d (e, count) some later = rw e (rw count (rw some (rw later refl)))
 
   pub finish-answer : (t u : Table) (n v r c : ℕ) → Asked x t u n v → Rounds x n t u r c → Answer x t u v r c
-  unfolding answer after answerUnless afterUnless told left finishing.finish
+  unfolding answer after told left finishing.finish
   finish-answer t u n v r c (asked, empty, value) rounds =
       let done : finishing.finish (decode x) t ≡ finished u r c = ap (λ m. roundsFrom (decode x) m t) empty ∙ rounds in
-      (ap (λ q. answerUnless q finish x t) asked
+      (answered-none (questions finish x t) (width finish) (told finish (decode x) t) asked
       ∙ ap (λ F. accepted (verdict (decode x) (F .table) ∷ F .rounds ∷ F .cells ∷ [])) done
       ∙ ap (λ w. accepted (w ∷ r ∷ c ∷ [])) value,
-      ap (λ q. afterUnless q finish x t) asked ∙ ap (λ F. F .table) done)
+      afterwards-none (questions finish x t) t (left finish (decode x) t) asked ∙ ap (λ F. F .table) done)
 """
 
 

@@ -3,6 +3,7 @@ use Prim.Native.Nat.{ℕ}
 use mathlib.Core.List.{[], _∷_}
 use Rattle.job.specs.Answer.{Answer, accepted, refused}
 use Rattle.job.specs.declared.reader.Refusal.{Refusal}
+use Rattle.calls.specs.declared.fresh.Cleared as cleared
 use Rattle.calls.specs.declared.step.Stepped as stepped
 use Rattle.calls.specs.declared.offer.Offered as offered
 use Rattle.calls.specs.declared.accept.Delivered as delivered
@@ -12,6 +13,10 @@ use Rattle.calls.specs.declared.finish.Finished as finished
 
 abbrev by : Refusal → ℕ → Answer
 by why others = refused (why .number) (why .line) others
+
+unfoldable pub freshTold : cleared.Cleared → Answer
+freshTold cleared.the-variants.Accepted = accepted []
+freshTold (cleared.the-variants.Refused why) = by why 0
 
 unfoldable pub stepTold : stepped.Stepped → Answer
 stepTold (stepped.the-variants.Accepted filled) = accepted (filled ∷ [])

@@ -1,10 +1,13 @@
-// The calls of document 01 on a job text and a lent table of cells: step, offer, accept, look, close, finish. Each takes any
-// bytes and any numbers: it reads the text, decodes it once, puts its questions in document 01's order, and then works on the
-// decoded arrays. A refusal leaves every byte of the table.
+// The nine calls of document 01, one file each, on a job text and, but for read and line, a lent table of cells. Each takes any bytes and any
+// numbers. A call on a table reads the text, decodes it once, puts its own questions, and then works on the image; fresh needs line 1 alone.
+// A refusal leaves every byte of the table.
 pub mod accept;
 pub mod close;
 pub mod finish;
+pub mod fresh;
+pub mod line;
 pub mod look;
 pub mod offer;
-pub mod prepare;
+pub mod read;
+pub mod refusal;
 pub mod step;

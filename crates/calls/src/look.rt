@@ -1,30 +1,21 @@
 // The call look.
 ghost use mathlib.Core.Path.{_≡_};
-ghost use Rattle.cells.specs.Calls.{Call, answer, after, nodeRead};
+ghost use Rattle.cells.specs.Calls.{Call, answer, after};
 ghost use Rattle.calls.specs.Told.{lookTold};
-use crate::prepare::are_in;
-use crate::prepare::prepare;
-use exchange::cell::cell_at;
-use exchange::cell::place_at;
+use crate::read::read;
+use crate::refusal::by;
+use image::decode::decode;
 use job::reader::Reading;
 use job::reader::Refusal;
-use job::reader::read;
 use job::reader::refused_by;
+use questions::look_no;
+use questions::node_read;
+use table::cell::cell;
 
 // With the cell, 2 where it is empty.
 pub enum Looked {
     Accepted(u8),
     Refused(Refusal),
-}
-
-// The node that is looked at: 255 names none and is read as node 0.
-fn node_read(node: usize) -> usize
-    ensures { λ r. ⌜ r ≡ nodeRead node ⌝ }
-{
-    if node == 255 {
-        return 0;
-    }
-    node
 }
 
 // The cell of a node, state and subformula. The table stays.
@@ -36,34 +27,11 @@ pub fn look(text: &[u8], table: &[u8], node: usize, state: usize, subformula: us
     let Reading::Accepted(h) = reading else {
         return Looked::Refused(refused_by(reading));
     };
-    let job = prepare(text, h, table);
-    if job.no != 0 {
-        return Looked::Refused(Refusal {
-            number: job.no,
-            line: 0,
-        });
+    let mut m = [0u16; 13165];
+    decode(text, h, &mut m);
+    let no = look_no(&m, table, node, state, subformula);
+    if no != 0 {
+        return Looked::Refused(by(no));
     }
-    let m = job.machine;
-    let n = node_read(node);
-    if m.nodes <= n {
-        return Looked::Refused(Refusal {
-            number: 11,
-            line: 0,
-        });
-    }
-    if !are_in(m.states, m.subformulas, state, subformula) {
-        return Looked::Refused(Refusal {
-            number: 12,
-            line: 0,
-        });
-    }
-    if place_at(&job.places, n, state) == 0 {
-        return Looked::Refused(Refusal {
-            number: 18,
-            line: 0,
-        });
-    }
-    let at = cell_at(m.states, m.subformulas, n, state, subformula);
-    let cell = table[at];
-    Looked::Accepted(cell)
+    Looked::Accepted(cell(&m, table, node_read(node), state, subformula))
 }

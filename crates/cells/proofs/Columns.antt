@@ -1,20 +1,24 @@
--- What the step of a node has for a column depends on the cells of the operands at the states that it reads and, for an until, on
--- the column's own cells. Assumes nothing.
+-- What the step of a node has for a column depends on the cells of the operands at the states that it reads and, by sets, on the
+-- column's own cells. Assumes nothing.
 use Prim.Native.Nat.{ℕ, _<_}
-use mathlib.Core.Path.{_≡_, refl, sym, _∙_, ap, ap₂}
+use mathlib.Core.Path.{_≡_, refl, ap, ap₂}
 use mathlib.Core.Bool.{Bool, not, _&&_, _||_}
 use mathlib.Core.List.{List}
 use mathlib.Core.Logic.{_⊎_, inl, inr}
+use native.Mathlib.Omega.{arith}
+use lib.ListN.{length, getD}
 use lib.Dec.{eqb}
 use Rattle.law.proofs.Lists.{every-same, some-same, tab-same}
 use Rattle.law.proofs.Least.{least-same}
 use Rattle.law.proofs.Greatest.{greatest-same}
 use Rattle.job.specs.Job.{Job, Quantifier, forAll, exists, dual, over, size}
-use Rattle.job.specs.Written.{noEdge, edgeOf, edgeCount, Operands}
-use Rattle.job.specs.declared.subformula.Subformula.{Subformula}
-use Rattle.job.specs.declared.subformula.Subformula.the-variants.{Atom, Not, And, Ax, Ex, Au, Eu}
-use Rattle.cells.specs.SetRule.{SetRule, joins, smallest, stays, largest, bySets}
-use Rattle.cells.specs.Step.{opposite, both, next, untilRule, column}
+use Rattle.job.specs.Rule.{operands, quantifier, IsSets, InRange}
+use Rattle.job.specs.Written.{noEdge, edgeOf, edgeCount}
+use Rattle.job.specs.declared.rule.Rule.{Rule}
+use Rattle.job.specs.declared.rule.Rule.the-variants.{Atom, Not, And, Next, Sets}
+use Rattle.job.proofs.RuleLaws.{operand-smaller}
+use Rattle.cells.specs.SetRule.{SetRule, setRule, joins, smallest, stays, largest, bySets}
+use Rattle.cells.specs.Step.{opposite, both, next, column}
 
 -- A state of the job, or an end of an edge: the states whose cells a step may read.
 abbrev pub Read : Job → ℕ → Type 0
@@ -70,54 +74,41 @@ module _
     unfolding bySets
     bySets-same = rw (smallest-same, largest-same (smallest J n own R), value)
 
--- A column k is local, made of the operands' cells alone, or made by the sets of an until.
-module _ (J : Job) (n k : ℕ) where
-  -- two tables' cells, by subformula and state, agree below k
-  abbrev pub Below : (ℕ → ℕ → ℕ) → (ℕ → ℕ → ℕ) → Type 0
-  Below at′ at = (j : ℕ) → j < k → (s : ℕ) → Read J s → at′ j s ≡ at j s
+-- The cells `at` of a node by subformula and state, and other cells `at′`: a column by rule r is the same where the operands' cells are
+-- and, where it goes by sets, its own.
+module _ (J : Job) (n k : ℕ) (at′ at : ℕ → ℕ → ℕ) where
+  abbrev pub SameCells : List ℕ → Type 0
+  SameCells l = (i : ℕ) → i < length l → (s : ℕ) → Read J s → at′ (getD l i 0) s ≡ at (getD l i 0) s
 
-  pub data Kind (f : Subformula) : Type 0 where
-    locally : ((at′ at : ℕ → ℕ → ℕ) → Below at′ at → column J n at′ k f ≡ column J n at k f) → Kind f
-    until :
-        (q : Quantifier) (a b : ℕ)
-        → a < k
-        → b < k
-        → ((at : ℕ → ℕ → ℕ) → column J n at k f ≡ bySets J n (at k) (untilRule q (at a) (at b)))
-        → Kind f
+  abbrev pub SameOwn : Type 0
+  SameOwn = (s : ℕ) → s < size J → at′ k s ≡ at k s
 
-  pub kind : (f : Subformula) → Operands k f → Kind f
-  unfolding column Operands
-  kind (Atom j) o = locally (λ at′ at same. refl)
-  kind (Not a) o =
-      locally (λ at′ at same. tab-same _ _ (size J) 0 (λ s l. ap opposite (same a o s (inl l))))
-  kind (And a b) o =
-      locally
-      (λ at′ at same. tab-same _ _ (size J) 0 (λ s l. ap₂ both (same a (o .0) s (inl l)) (same b (o .1) s (inl l))))
-  kind (Ax a) o =
-      locally (λ at′ at same. tab-same _ _ (size J) 0 (λ s l. next-same J n forAll (at′ a) (at a) (same a o) s))
-  kind (Ex a) o =
-      locally (λ at′ at same. tab-same _ _ (size J) 0 (λ s l. next-same J n exists (at′ a) (at a) (same a o) s))
-  kind (Au a b) o = until forAll a b (o .0) (o .1) (λ at. refl)
-  kind (Eu a b) o = until exists a b (o .0) (o .1) (λ at. refl)
+  pub column-reads : (r : Rule) → SameCells (operands r) → (IsSets r → SameOwn) → column J n at′ k r ≡ column J n at k r
+  unfolding column
+  column-reads (Atom j) same own = refl
+  column-reads (Not a) same own = tab-same _ _ (size J) 0 (λ s l. ap opposite (same 0 (omega arith) s (inl l)))
+  column-reads (And a b) same own =
+      tab-same _ _ (size J) 0 (λ s l. ap₂ both (same 0 (omega arith) s (inl l)) (same 1 (omega arith) s (inl l)))
+  column-reads (Next all a) same own =
+      tab-same _ _ (size J) 0 (λ s l. next-same J n (quantifier all) (at′ a) (at a) (same 0 (omega arith)) s)
+  column-reads (Sets all b a v) same own =
+      bySets-same J n (at k) (at′ k) (setRule (quantifier all) (at b) (at a) v) (setRule (quantifier all) (at′ b) (at′ a) v) refl refl
+      (own (record { all = all; start = b; grow = a; value = v; is = refl }))
+      (λ s l. same 0 (omega arith) s (inl l)) (λ s l. same 1 (omega arith) s (inl l))
 
-  pub until-same :
-      (at′ at : ℕ → ℕ → ℕ) (own′ own : ℕ → ℕ) (q : Quantifier) (a b : ℕ)
-      → a < k
-      → b < k
-      → Below at′ at
-      → ((s : ℕ) → s < size J → own′ s ≡ own s)
-      → bySets J n own′ (untilRule q (at′ a) (at′ b)) ≡ bySets J n own (untilRule q (at a) (at b))
-  until-same at′ at own′ own q a b i j same owns =
-      bySets-same J n own own′ (untilRule q (at a) (at b)) (untilRule q (at′ a) (at′ b)) refl refl owns
-      (λ s l. same b j s (inl l)) (λ s l. same a i s (inl l))
+  -- so where the cells of smaller subformulas are the same
+  abbrev pub Below : Type 0
+  Below = (j : ℕ) → j < k → (s : ℕ) → Read J s → at′ j s ≡ at j s
 
-  pub column-same :
-      (at′ at : ℕ → ℕ → ℕ)
-      → Below at′ at
-      → ((s : ℕ) → s < size J → at′ k s ≡ at k s)
-      → (f : Subformula)
-      → Kind f
-      → column J n at′ k f ≡ column J n at k f
-  column-same at′ at same own f (locally eq) = eq at′ at same
-  column-same at′ at same own f (until q a b i j is) =
-      is at′ ∙ until-same at′ at (at′ k) (at k) q a b i j same own ∙ sym (is at)
+  pub below-operands : Below → (r : Rule) → InRange k r → SameCells (operands r)
+  below-operands same r o i l = same (getD (operands r) i 0) (operand-smaller k r o i l)
+
+  pub column-same : Below → SameOwn → (r : Rule) → InRange k r → column J n at′ k r ≡ column J n at k r
+  column-same same own r o = column-reads r (below-operands same r o) (λ sets. own)
+
+-- The column of a rule that goes by sets.
+pub sets-column :
+    (J : Job) (n : ℕ) (at : ℕ → ℕ → ℕ) (k : ℕ) (r : Rule) (sets : IsSets r)
+    → column J n at k r ≡ bySets J n (at k) (setRule (quantifier (sets .all)) (at (sets .start)) (at (sets .grow)) (sets .value))
+unfolding column
+sets-column J n at k r sets = ap (column J n at k) (sets .is)

@@ -12,7 +12,7 @@ use Rattle.law.specs.Bounded.{count}
 use Rattle.law.proofs.Bool.{clash, and-intro, not-is-true}
 use Rattle.law.proofs.Bounded.{by-order, by-equal}
 use Rattle.law.proofs.Count.{count-sum, count-none}
-use Rattle.job.specs.Job.{Job, size, depth}
+use Rattle.job.specs.Job.{Job, size, subformulaCount}
 use Rattle.cells.specs.Table.{Table, tableLength, index, cell, isEmpty, inside, filled, emptyCells}
 use Rattle.cells.proofs.Index.{index-lt}
 use Rattle.cells.proofs.Fill.{empty-is, is-empty, not-empty}
@@ -84,7 +84,7 @@ pub filled-cell :
     → (n s k : ℕ)
     → n < J .nodes
     → s < size J
-    → k < depth J
+    → k < subformulaCount J
     → cell J t n s k ≡ 2
     → (cell J u n s k ≡ 2 → ⊥)
     → 0 < filled t u

@@ -1,5 +1,5 @@
 -- A column has a value for a state where the cells that it reads are filled: not and and at every state, next where the node
--- owns the state. So the untils are the only subformulas that a close can be for. Assumes nothing.
+-- owns the state. So a close can only be for a subformula that goes by sets. Assumes nothing.
 use Prim.Native.Nat.{ℕ, _<_, _≤_}
 use mathlib.Core.Path.{_≡_, refl}
 use mathlib.Core.Bool.{Bool, true, false, not, cond, true≢false}
@@ -9,27 +9,15 @@ use lib.Dec.{eqb}
 use borrow.Author.Tests.{eq-eqb, eqb-false, ne-eqb, not-true}
 use Rattle.law.proofs.Bool.{split}
 use Rattle.law.proofs.Lists.{tab-at}
-use Rattle.job.specs.Job.{Job, Quantifier, forAll, exists, dual, over, size, atom, edge}
-use Rattle.job.specs.Formula.{temporal}
-use Rattle.job.specs.Written.{Operands}
-use Rattle.job.specs.declared.subformula.Subformula.{Subformula}
-use Rattle.job.specs.declared.subformula.Subformula.the-variants.{Atom, Not, And, Ax, Ex, Au, Eu}
+use Rattle.job.specs.Job.{Job, Quantifier, dual, over, size, atom, edge}
+use Rattle.job.specs.Rule.{temporal, quantifier, IsSets, InRange}
+use Rattle.job.specs.declared.rule.Rule.{Rule}
+use Rattle.job.specs.declared.rule.Rule.the-variants.{Atom, Not, And, Next, Sets}
 use Rattle.cells.specs.Fragment.{inner}
 use Rattle.cells.specs.Table.{isEmpty}
 use Rattle.cells.specs.Step.{opposite, both, next, column}
 use Rattle.job.proofs.Successors.{over-within, over-else}
 use Rattle.cells.proofs.Tells.{by-cell}
-
--- A(a U b) and E(a U b), by quantifier, and what is one of the two.
-unfoldable pub untilOf : Quantifier → ℕ → ℕ → Subformula
-untilOf forAll a b = Au a b
-untilOf exists a b = Eu a b
-
-pub record IsUntil (f : Subformula) : Type 0 where
-  pub quantifier : Quantifier
-  pub left : ℕ
-  pub right : ℕ
-  pub is : f ≡ untilOf quantifier left right
 
 -- A filled cell: 0 or 1.
 abbrev pub Filled : ℕ → Type 0
@@ -69,12 +57,12 @@ next-filled J n q c s i filled =
 module _ (J : Job) (n : ℕ) (at : ℕ → ℕ → ℕ) (k s : ℕ) (l : s < size J) where
   -- not temporal: from the operands' cells of the same state
   pub local-filled :
-      (f : Subformula)
-      → Operands k f
-      → temporal f ≡ false
+      (r : Rule)
+      → InRange k r
+      → temporal r ≡ false
       → ((j : ℕ) → j < k → Filled (at j s))
-      → Filled (getD (column J n at k f) s 2)
-  unfolding column Operands temporal
+      → Filled (getD (column J n at k r) s 2)
+  unfolding column InRange
   local-filled (Atom j) o p filled =
       rw (tab-at (λ u. cond {A = ℕ} (atom (J .structure) j u) 1 0) (size J) s 2 l)
       (split (atom (J .structure) j s) (λ t. simp t (omega arith)) (λ f. simp f (omega arith)))
@@ -82,27 +70,23 @@ module _ (J : Job) (n : ℕ) (at : ℕ → ℕ → ℕ) (k s : ℕ) (l : s < siz
       rw (tab-at (λ u. opposite (at a u)) (size J) s 2 l) (opposite-filled (at a s) (filled a o))
   local-filled (And a b) o p filled =
       rw (tab-at (λ u. both (at a u) (at b u)) (size J) s 2 l) (both-filled (at a s) (at b s) (filled a (o .0)) (filled b (o .1)))
-  local-filled (Ax a) o p filled = absurd (true≢false p)
-  local-filled (Ex a) o p filled = absurd (true≢false p)
-  local-filled (Au a b) o p filled = absurd (true≢false p)
-  local-filled (Eu a b) o p filled = absurd (true≢false p)
+  local-filled (Next all a) o p filled = absurd (true≢false p)
+  local-filled (Sets all b a v) o p filled = absurd (true≢false p)
 
   -- an owned state without a value, where the operands' cells are filled at the state and its successors
-  pub empty-until :
-      (f : Subformula)
-      → Operands k f
+  pub empty-sets :
+      (r : Rule)
+      → InRange k r
       → inner J n s ≡ true
       → ((j : ℕ) → j < k → Filled (at j s))
       → ((j u : ℕ) → j < k → edge (J .structure) s u ≡ true → Filled (at j u))
-      → getD (column J n at k f) s 2 ≡ 2
-      → IsUntil f
-  unfolding column Operands temporal untilOf
-  empty-until (Atom j) o i filled next e = absurd (omega (arith, local-filled (Atom j) o refl filled))
-  empty-until (Not a) o i filled next e = absurd (omega (arith, local-filled (Not a) o refl filled))
-  empty-until (And a b) o i filled next e = absurd (omega (arith, local-filled (And a b) o refl filled))
-  empty-until (Ax a) o i filled later e =
-      absurd (omega (arith, tab-at (next J n forAll (at a)) (size J) s 2 l, next-filled J n forAll (at a) s i (λ u. later a u o)))
-  empty-until (Ex a) o i filled later e =
-      absurd (omega (arith, tab-at (next J n exists (at a)) (size J) s 2 l, next-filled J n exists (at a) s i (λ u. later a u o)))
-  empty-until (Au a b) o i filled next e = record { quantifier = forAll; left = a; right = b; is = refl }
-  empty-until (Eu a b) o i filled next e = record { quantifier = exists; left = a; right = b; is = refl }
+      → getD (column J n at k r) s 2 ≡ 2
+      → IsSets r
+  unfolding column InRange
+  empty-sets (Atom j) o i filled later e = absurd (omega (arith, local-filled (Atom j) o refl filled))
+  empty-sets (Not a) o i filled later e = absurd (omega (arith, local-filled (Not a) o refl filled))
+  empty-sets (And a b) o i filled later e = absurd (omega (arith, local-filled (And a b) o refl filled))
+  empty-sets (Next all a) o i filled later e =
+      let q = quantifier all in
+      absurd (omega (arith, tab-at (next J n q (at a)) (size J) s 2 l, next-filled J n q (at a) s i (λ u. later a u o)))
+  empty-sets (Sets all b a v) o i filled later e = record { all = all; start = b; grow = a; value = v; is = refl }

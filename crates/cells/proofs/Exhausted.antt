@@ -15,7 +15,7 @@ use Rattle.job.specs.Written.{IsJob}
 use Rattle.ctl.specs.Labelling.{reached}
 use Rattle.ctl.proofs.Reached.{reached-state}
 use Rattle.cells.specs.Fragment.{owns, inFragment, border}
-use Rattle.cells.specs.SetRule.{SetRule, smallest, bySets}
+use Rattle.cells.specs.SetRule.{SetRule, setRule, smallest, bySets}
 use Rattle.cells.specs.Sets.{Joins, already, starts, grows}
 use Rattle.cells.proofs.Sets.{smallest-is}
 use Rattle.cells.proofs.Repeat.{bySets-at}
@@ -23,7 +23,7 @@ use Rattle.job.proofs.Successors.{over-within}
 use Rattle.cells.proofs.FragmentLaws.{owns-bound, owns-owner, owned-inside, next-inside, fragment-bound, edge-bound, inner-owned, outer-border, owner-owns}
 use Rattle.ctl.proofs.Reached.{reached-turns}
 use Rattle.cells.proofs.Tells.{Tells}
-use Rattle.cells.proofs.RightSets.{setRule, Telling}
+use Rattle.cells.proofs.RightSets.{Telling}
 use Rattle.cells.proofs.Determined.{Filled}
 
 -- The nodes' cells of a rule, by node and state: right, with start and growing known, and no more to step or to copy.

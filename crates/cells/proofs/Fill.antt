@@ -10,7 +10,7 @@ use lib.Seq.{ext-getD}
 use Rattle.law.proofs.Bool.{split, cond-false, and-no-right}
 use Rattle.law.proofs.Bounded.{by-order, by-equal}
 use Rattle.law.proofs.Lists.{tab-length, tab-at}
-use Rattle.job.specs.Job.{Job, size, depth}
+use Rattle.job.specs.Job.{Job, size, subformulaCount}
 use Rattle.cells.specs.Fragment.{inFragment}
 use Rattle.cells.specs.Table.{Table, tableLength, index, nodeOf, stateOf, subformulaOf, cell, isEmpty, inside, fillAt, fill}
 use Rattle.cells.proofs.Index.{nodeOf-index, stateOf-index, subformulaOf-index, nodeOf-lt, stateOf-lt, subformulaOf-lt, cell-at}
@@ -75,14 +75,14 @@ module _ (J : Job) (new : ℕ → ℕ → ℕ → ℕ) (t : Table) where
   pub fill-cell :
       (n s k : ℕ)
       → s < size J
-      → k < depth J
+      → k < subformulaCount J
       → cell J (fill J new t) n s k ≡ cond (isEmpty (cell J t n s k) && inFragment J n s) (new n s k) (cell J t n s k)
   unfolding cell fillAt inside
   fill-cell n s k b c =
       fill-at (index J n s k) ∙ simp (nodeOf-index J n s k b c, stateOf-index J n s k b c, subformulaOf-index J n s k c)
 
   pub fill-cell-outside :
-      (n s k : ℕ) → s < size J → k < depth J → inFragment J n s ≡ false → cell J (fill J new t) n s k ≡ cell J t n s k
+      (n s k : ℕ) → s < size J → k < subformulaCount J → inFragment J n s ≡ false → cell J (fill J new t) n s k ≡ cell J t n s k
   fill-cell-outside n s k b c o =
       fill-cell n s k b c
       ∙ cond-false (isEmpty (cell J t n s k) && inFragment J n s) (new n s k) (cell J t n s k)
@@ -91,14 +91,14 @@ module _ (J : Job) (new : ℕ → ℕ → ℕ → ℕ) (t : Table) where
   pub fill-cell-new :
       (n s k : ℕ)
       → s < size J
-      → k < depth J
+      → k < subformulaCount J
       → cell J t n s k ≡ 2
       → inFragment J n s ≡ true
       → cell J (fill J new t) n s k ≡ new n s k
   fill-cell-new n s k b c e o = fill-cell n s k b c ∙ simp (is-empty (cell J t n s k) e, o)
 
   pub fill-cell-left :
-      (n s k : ℕ) → s < size J → k < depth J → new n s k ≡ 2 → cell J (fill J new t) n s k ≡ cell J t n s k
+      (n s k : ℕ) → s < size J → k < subformulaCount J → new n s k ≡ 2 → cell J (fill J new t) n s k ≡ cell J t n s k
   unfolding cell
   fill-cell-left n s k b c two =
       fill-left (index J n s k) (rw (nodeOf-index J n s k b c, stateOf-index J n s k b c, subformulaOf-index J n s k c) two)
@@ -127,7 +127,7 @@ module _ (J : Job) (new other : ℕ → ℕ → ℕ → ℕ) (t : Table) where
       → ((n s k : ℕ)
       → n < J .nodes
       → s < size J
-      → k < depth J
+      → k < subformulaCount J
       → cell J t n s k ≡ 2
       → inFragment J n s ≡ true
       → new n s k ≡ other n s k)
@@ -162,7 +162,7 @@ module _ (J : Job) (new : ℕ → ℕ → ℕ → ℕ) (t : Table) where
       → ((n s k : ℕ)
       → n < J .nodes
       → s < size J
-      → k < depth J
+      → k < subformulaCount J
       → cell J t n s k ≡ 2
       → inFragment J n s ≡ true
       → new n s k ≡ 2)
@@ -173,7 +173,7 @@ module _ (J : Job) (new : ℕ → ℕ → ℕ → ℕ) (t : Table) where
       fill J new t ≡ t
       → (n s k : ℕ)
       → s < size J
-      → k < depth J
+      → k < subformulaCount J
       → cell J t n s k ≡ 2
       → inFragment J n s ≡ true
       → new n s k ≡ 2

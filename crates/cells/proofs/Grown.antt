@@ -6,7 +6,7 @@ use mathlib.Core.Bool.{false}
 use lib.ListN.{length, getD}
 use lib.Seq.{ext-getD}
 use Rattle.law.proofs.Bounded.{by-equal}
-use Rattle.job.specs.Job.{Job, depth}
+use Rattle.job.specs.Job.{Job, subformulaCount}
 use Rattle.cells.specs.Table.{Table, index, cell, inside, fill}
 use Rattle.cells.specs.Step.{stepColumn, stepUpTo, stepTable}
 use Rattle.cells.specs.Close.{acceptTable, copyTable, closeTable}
@@ -67,7 +67,7 @@ module _ (J : Job) where
   unfolding closeTable
   closeTable-grown t = fill-grown _ t
 
-  pub stepUpTo-grown : (n j k : ℕ) (t : Table) → j ≤ k → k ≤ depth J → Grown (stepUpTo J n j t) (stepUpTo J n k t)
+  pub stepUpTo-grown : (n j k : ℕ) (t : Table) → j ≤ k → k ≤ subformulaCount J → Grown (stepUpTo J n j t) (stepUpTo J n k t)
   stepUpTo-grown n j = stepUpTo-keeps J Grown grown-same grown-after n j (λ k t m l. stepColumn-grown n k t)
 
   pub stepTable-grown : (n : ℕ) (t : Table) → Grown t (stepTable J n t)

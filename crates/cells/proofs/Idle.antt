@@ -3,7 +3,7 @@
 use Prim.Native.Nat.{ℕ, zero, suc, _<_, _≤_}
 use mathlib.Core.Path.{_≡_, refl, sym, _∙_}
 use mathlib.Core.Bool.{true, _&&_}
-use mathlib.Core.Logic.{⊎-elim}
+use mathlib.Core.Logic.{⊎-elim, inl}
 use native.Mathlib.Nat.{le-refl, mod-lt}
 use native.Mathlib.Omega.{arith}
 use borrow.Author.Tests.{eqb-true, eq-eqb}
@@ -12,19 +12,22 @@ use lib.ListN.{getD}
 use Rattle.law.proofs.Bool.{split, cond-false, and-left, and-right, or-cases}
 use Rattle.law.proofs.Bounded.{by-equal}
 use Rattle.law.proofs.Lists.{some-elim}
-use Rattle.job.specs.Job.{Job, size, depth, subformula}
-use Rattle.job.specs.Written.{noEdge, Operands}
-use Rattle.job.specs.declared.subformula.Subformula.{Subformula}
+use Rattle.job.specs.Job.{Job, size, subformulaCount}
+use Rattle.job.specs.Rule.{ruleAt, quantifier, IsSets, InRange}
+use Rattle.job.specs.Written.{noEdge}
+use Rattle.job.specs.declared.rule.Rule.{Rule}
+use Rattle.job.proofs.RuleLaws.{by-sets, sets-range}
 use Rattle.cells.specs.Fragment.{owns, inFragment}
 use Rattle.cells.specs.Table.{Table, nodeOf, stateOf, subformulaOf, cell, inside, filled}
-use Rattle.cells.specs.Step.{untilRule, column, stepColumn, stepUpTo, stepTable}
+use Rattle.cells.specs.SetRule.{setRule}
+use Rattle.cells.specs.Step.{column, stepColumn, stepUpTo, stepTable}
 use Rattle.cells.proofs.FragmentLaws.{owns-bound}
 use Rattle.cells.proofs.Index.{cell-at}
 use Rattle.cells.proofs.Fill.{is-empty, not-empty, fill-idle, idle-new}
 use Rattle.cells.proofs.Kept.{stepUpTo-keeps}
 use Rattle.cells.proofs.Grown.{grown-both, stepUpTo-grown, stepTable-grown}
 use Rattle.cells.proofs.Counts.{filled-none}
-use Rattle.cells.proofs.Columns.{Below, Kind, locally, until, kind, until-same, column-same}
+use Rattle.cells.proofs.Columns.{Below, bySets-same, sets-column, column-reads, below-operands, column-same}
 use Rattle.cells.proofs.Local.{columnOf, stepColumn-cell, stepColumn-other}
 use Rattle.cells.proofs.Repeat.{FilledIn, bySets-again}
 
@@ -61,7 +64,7 @@ module _ (J : Job) (n k : ℕ) (t : Table) where
 
   pub idle-column :
       stepColumn J n k t ≡ t
-      → k < depth J
+      → k < subformulaCount J
       → (s : ℕ)
       → s < size J
       → cell J t n s k ≡ 2
@@ -73,22 +76,22 @@ module _ (J : Job) (n k : ℕ) (t : Table) where
 
 -- A step changes nothing exactly where none of its columns does.
 module _ (J : Job) (n : ℕ) (t : Table) where
-  pub stepTable-idle : ((k : ℕ) → k < depth J → stepColumn J n k t ≡ t) → stepTable J n t ≡ t
+  pub stepTable-idle : ((k : ℕ) → k < subformulaCount J → stepColumn J n k t ≡ t) → stepTable J n t ≡ t
   unfolding stepTable stepUpTo
-  stepTable-idle idle = upTo (depth J) (le-refl (depth J))
+  stepTable-idle idle = upTo (subformulaCount J) (le-refl (subformulaCount J))
     where
-      upTo : (k : ℕ) → k ≤ depth J → stepUpTo J n k t ≡ t
+      upTo : (k : ℕ) → k ≤ subformulaCount J → stepUpTo J n k t ≡ t
       upTo zero l = refl
       upTo (suc k) l = rw (upTo k (omega arith)) (idle k l)
 
   -- between a table and the same table nothing has grown
-  idle-upTo : stepTable J n t ≡ t → (k : ℕ) → k ≤ depth J → stepUpTo J n k t ≡ t
+  idle-upTo : stepTable J n t ≡ t → (k : ℕ) → k ≤ subformulaCount J → stepUpTo J n k t ≡ t
   unfolding stepTable stepUpTo
   idle-upTo same k l =
-      grown-both J (stepUpTo J n k t) t (rw same at (stepUpTo-grown J n k (depth J) t l (le-refl (depth J))))
+      grown-both J (stepUpTo J n k t) t (rw same at (stepUpTo-grown J n k (subformulaCount J) t l (le-refl (subformulaCount J))))
       (stepUpTo-grown J n 0 k t (omega arith) l)
 
-  pub idle-columns : stepTable J n t ≡ t → (k : ℕ) → k < depth J → stepColumn J n k t ≡ t
+  pub idle-columns : stepTable J n t ≡ t → (k : ℕ) → k < subformulaCount J → stepColumn J n k t ≡ t
   unfolding stepUpTo
   idle-columns same k l = rw (idle-upTo same k (omega arith)) at (idle-upTo same (suc k) l)
 
@@ -96,7 +99,7 @@ module _ (J : Job) (n : ℕ) (t : Table) where
   pub none-filled :
       filled t (stepTable J n t) ≡ 0
       → (k s : ℕ)
-      → k < depth J
+      → k < subformulaCount J
       → s < size J
       → cell J t n s k ≡ 2
       → inFragment J n s ≡ true
@@ -106,49 +109,64 @@ module _ (J : Job) (n : ℕ) (t : Table) where
 
 -- The column of cells into which that column has been filled.
 module _
-    (J : Job) (n k : ℕ) (at at′ : ℕ → ℕ → ℕ) (below : Below J n k at′ at) (f : Subformula)
-    (after : FilledIn J n (column J n at k f) (at k) (at′ k))
+    (J : Job) (n k : ℕ) (at at′ : ℕ → ℕ → ℕ) (below : Below J n k at′ at) (r : Rule) (range : InRange k r)
+    (after : FilledIn J n (column J n at k r) (at k) (at′ k))
   where
-    had-none : (s : ℕ) → s < size J → at′ k s ≡ 2 → inFragment J n s ≡ true → getD (column J n at k f) s 2 ≡ 2
+    had-none : (s : ℕ) → s < size J → at′ k s ≡ 2 → inFragment J n s ≡ true → getD (column J n at k r) s 2 ≡ 2
     had-none s l h o =
         by-equal (at k s) 2 (λ e. sym (simp (is-empty (at k s) e, o) at (after s l)) ∙ h)
         (λ e. absurd (e (sym (simp (not-empty (at k s) e) at (after s l)) ∙ h)))
 
-    column-again :
-        Kind J n k f → (s : ℕ) → s < size J → at′ k s ≡ 2 → inFragment J n s ≡ true → getD (column J n at′ k f) s 2 ≡ 2
-    column-again (locally eq) s l h o = rw (eq at′ at below) (had-none s l h o)
-    column-again (until q a b i j is) s l h o =
-        rw (is at′ ∙ until-same J n k at′ at (at′ k) (at′ k) q a b i j below (λ u m. refl))
-        (bySets-again J n (at k) (at′ k) (untilRule q (at a) (at b)) (le-refl 1) (λ u m. rw (is at) at (after u m)) s l h)
+    -- by sets: with its operands' cells as they were, and its own filled
+    sets-again : (sets : IsSets r) (s : ℕ) → s < size J → at′ k s ≡ 2 → getD (column J n at′ k r) s 2 ≡ 2
+    sets-again sets s l h =
+        let (i, j, small) = sets-range k r sets range in
+        let q = quantifier (sets .all) in
+        let b = sets .start in
+        let a = sets .grow in
+        let v = sets .value in
+        rw (
+          sets-column J n at′ k r sets,
+          bySets-same J n (at′ k) (at′ k) (setRule q (at b) (at a) v) (setRule q (at′ b) (at′ a) v) refl refl (λ u m. refl)
+              (λ u m. below b i u (inl m)) (λ u m. below a j u (inl m)),
+        )
+        (bySets-again J n (at k) (at′ k) (setRule q (at b) (at a) v) small
+        (λ u m. rw (sets-column J n at k r sets) at (after u m)) s l h)
+
+    -- by another rule: it does not read its own cells
+    column-again : (s : ℕ) → s < size J → at′ k s ≡ 2 → inFragment J n s ≡ true → getD (column J n at′ k r) s 2 ≡ 2
+    column-again s l h o =
+        by-sets r (λ sets. sets-again sets s l h)
+        (λ other.
+        rw (column-reads J n k at′ at r (below-operands J n k at′ at below r range) (λ sets. absurd (other sets)))
+        (had-none s l h o))
 
 -- A column done again, then a whole step, upward: the columns after k leave column k and its operands.
-module _ (J : Job) (operands : (k : ℕ) → k < depth J → Operands k (subformula (J .formula) k)) (n : ℕ) where
+module _ (J : Job) (operands : (k : ℕ) → k < subformulaCount J → InRange k (ruleAt J k)) (n : ℕ) where
   pub stepColumn-again :
-      (k : ℕ) → k < depth J → (t : Table) → stepColumn J n k (stepColumn J n k t) ≡ stepColumn J n k t
+      (k : ℕ) → k < subformulaCount J → (t : Table) → stepColumn J n k (stepColumn J n k t) ≡ stepColumn J n k t
   stepColumn-again k l t =
       let u = stepColumn J n k t in
-      let f = subformula (J .formula) k in
       stepColumn-idle J n k u
       (column-again J n k (λ j s. cell J t n s j) (λ j s. cell J u n s j)
-      (λ j h s r. stepColumn-other J n k t n s j (omega arith) (λ e. omega arith)) f
-      (λ s b. stepColumn-cell J n k t s b l) (kind J n k f (operands k l)))
+      (λ j h s r. stepColumn-other J n k t n s j (omega arith) (λ e. omega arith)) (ruleAt J k) (operands k l)
+      (λ s b. stepColumn-cell J n k t s b l))
 
   later-same :
-      (k : ℕ) → k < depth J → (t : Table) (s j : ℕ) → j ≤ k → cell J (stepTable J n t) n s j ≡ cell J (stepUpTo J n (suc k) t) n s j
+      (k : ℕ) → k < subformulaCount J → (t : Table) (s j : ℕ) → j ≤ k → cell J (stepTable J n t) n s j ≡ cell J (stepUpTo J n (suc k) t) n s j
   unfolding stepTable
   later-same k l t s j h =
       stepUpTo-keeps J (λ u v. cell J v n s j ≡ cell J u n s j) (λ u. refl) (λ u v w p q. q ∙ p) n (suc k)
-      (λ i u a b. stepColumn-other J n i u n s j (omega arith) (λ e. omega arith)) (depth J) t l (le-refl (depth J))
+      (λ i u a b. stepColumn-other J n i u n s j (omega arith) (λ e. omega arith)) (subformulaCount J) t l (le-refl (subformulaCount J))
 
-  pub stepTable-column : (k : ℕ) → k < depth J → (t : Table) → stepColumn J n k (stepTable J n t) ≡ stepTable J n t
+  pub stepTable-column : (k : ℕ) → k < subformulaCount J → (t : Table) → stepColumn J n k (stepTable J n t) ≡ stepTable J n t
   unfolding stepUpTo
   stepTable-column k l t =
       let u = stepTable J n t in
       let w = stepUpTo J n (suc k) t in
-      let f = subformula (J .formula) k in
       let same : columnOf J n k u ≡ columnOf J n k w =
       column-same J n k (λ j s. cell J u n s j) (λ j s. cell J w n s j) (λ j h s r. later-same k l t s j (omega arith))
-      (λ s b. later-same k l t s k (le-refl k)) f (kind J n k f (operands k l)) in
+      (λ s b. later-same k l t s k (le-refl k)) (ruleAt J k) (operands k l) in
       stepColumn-idle J n k u
       (λ s b e o.
       rw same

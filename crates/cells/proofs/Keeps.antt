@@ -13,13 +13,14 @@ use Rattle.law.specs.Fixpoint.{member}
 use Rattle.law.proofs.Bool.{split, clash, contrapose, and-left, and-right, and-no-right, or-right, or-cases, cond-true, cond-false}
 use Rattle.law.proofs.Bounded.{by-equal}
 use Rattle.law.proofs.Lists.{tab-at}
-use Rattle.job.specs.Job.{Job, Quantifier, forAll, exists, dual, over, size}
-use Rattle.job.specs.Written.{IsJob, Operands}
-use Rattle.job.specs.declared.subformula.Subformula.{Subformula}
-use Rattle.job.specs.declared.subformula.Subformula.the-variants.{Atom, Not, And, Ax, Ex, Au, Eu}
+use Rattle.job.specs.Job.{Job, Quantifier, dual, over, size}
+use Rattle.job.specs.Rule.{InRange, quantifier}
+use Rattle.job.specs.Written.{IsJob}
+use Rattle.job.specs.declared.rule.Rule.{Rule}
+use Rattle.job.specs.declared.rule.Rule.the-variants.{Atom, Not, And, Next, Sets}
 use Rattle.cells.specs.Fragment.{inner}
 use Rattle.cells.specs.Table.{isEmpty}
-use Rattle.cells.specs.SetRule.{SetRule, smallest, largest, bySets}
+use Rattle.cells.specs.SetRule.{SetRule, setRule, smallest, largest, bySets}
 use Rattle.cells.specs.Step.{opposite, both, next, column}
 use Rattle.cells.specs.Sets.{Joins, already, starts, grows, Stays, other, blocked, follows}
 use Rattle.cells.proofs.Sets.{smallest-is, largest-is, largest-apart}
@@ -27,8 +28,8 @@ use Rattle.cells.proofs.Repeat.{bySets-at}
 use Rattle.job.proofs.Successors.{over-within, over-share}
 use Rattle.cells.proofs.FragmentLaws.{edge-bound}
 use Rattle.cells.proofs.Tells.{Tells, by-cell}
-use Rattle.cells.proofs.RightColumn.{Reads, reads-always, reads-sometimes}
-use Rattle.cells.proofs.RightSets.{setRule, target, Telling, joins-target, smallest-target, largest-target}
+use Rattle.cells.proofs.RightColumn.{Reads, reads-sets}
+use Rattle.cells.proofs.RightSets.{target, Telling, joins-target, smallest-target, largest-target}
 
 -- The cell c, if filled, has the value d too.
 abbrev pub Keeps : ℕ → ℕ → Type 0
@@ -210,14 +211,14 @@ module _
     operand j h s = kept j s (omega arith)
 
     pub column-keeps :
-        (f : Subformula)
-        → Operands k f
-        → Reads J T k f at
-        → Reads J T k f at′
+        (r : Rule)
+        → InRange k r
+        → Reads J T k r at
+        → Reads J T k r at′
         → (s : ℕ)
         → s < size J
-        → Keeps (getD (column J n at k f) s 2) (getD (column J n at′ k f) s 2)
-    unfolding column Operands
+        → Keeps (getD (column J n at k r) s 2) (getD (column J n at′ k r) s 2)
+    unfolding column InRange
     column-keeps (Atom j) o reads reads′ s l = λ v small h. h
     column-keeps (Not a) o reads reads′ s l =
         rw (tab-at (λ u. opposite (at a u)) (size J) s 2 l, tab-at (λ u. opposite (at′ a u)) (size J) s 2 l)
@@ -225,17 +226,11 @@ module _
     column-keeps (And a b) o reads reads′ s l =
         rw (tab-at (λ u. both (at a u) (at b u)) (size J) s 2 l, tab-at (λ u. both (at′ a u) (at′ b u)) (size J) s 2 l)
         (both-keeps (at a s) (at b s) (at′ a s) (at′ b s) (operand a (o .0) s l) (operand b (o .1) s l))
-    column-keeps (Ax a) o reads reads′ s l =
-        rw (tab-at (next J n forAll (at a)) (size J) s 2 l, tab-at (next J n forAll (at′ a)) (size J) s 2 l)
-        (next-keeps J job n forAll (at a) (at′ a) (operand a o) s)
-    column-keeps (Ex a) o reads reads′ s l =
-        rw (tab-at (next J n exists (at a)) (size J) s 2 l, tab-at (next J n exists (at′ a)) (size J) s 2 l)
-        (next-keeps J job n exists (at a) (at′ a) (operand a o) s)
-    column-keeps (Au a b) o reads reads′ s l =
-        bySets-keeps J n forAll 1 (le-refl 1) (T b) (T a) (at k) (at b) (at a) (at′ k) (at′ b) (at′ a)
-        (reads-always J T k at a b o reads) (reads-always J T k at′ a b o reads′) (λ u m. reads′ .low k u)
-        (λ u. kept k u (le-refl (suc k))) (operand b (o .1)) (operand a (o .0)) s l
-    column-keeps (Eu a b) o reads reads′ s l =
-        bySets-keeps J n exists 1 (le-refl 1) (T b) (T a) (at k) (at b) (at a) (at′ k) (at′ b) (at′ a)
-        (reads-sometimes J T k at a b o reads) (reads-sometimes J T k at′ a b o reads′) (λ u m. reads′ .low k u)
-        (λ u. kept k u (le-refl (suc k))) (operand b (o .1)) (operand a (o .0)) s l
+    column-keeps (Next all a) o reads reads′ s l =
+        let q = quantifier all in
+        rw (tab-at (next J n q (at a)) (size J) s 2 l, tab-at (next J n q (at′ a)) (size J) s 2 l)
+        (next-keeps J job n q (at a) (at′ a) (operand a o) s)
+    column-keeps (Sets all b a v) o reads reads′ s l =
+        bySets-keeps J n (quantifier all) v (o .2) (T b) (T a) (at k) (at b) (at a) (at′ k) (at′ b) (at′ a)
+        (reads-sets J T k at all b a v o reads) (reads-sets J T k at′ all b a v o reads′) (λ u m. reads′ .low k u)
+        (λ u. kept k u (le-refl (suc k))) (operand b (o .0)) (operand a (o .1)) s l

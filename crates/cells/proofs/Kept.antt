@@ -8,7 +8,7 @@ use native.Mathlib.Omega.{arith}
 use lib.Dec.{eqb}
 use Rattle.law.proofs.Bool.{split, and-left, and-right}
 use Rattle.law.proofs.Bounded.{below-suc}
-use Rattle.job.specs.Job.{Job, depth}
+use Rattle.job.specs.Job.{Job, subformulaCount}
 use Rattle.cells.specs.Table.{Table, filled, emptyCells}
 use Rattle.cells.specs.Step.{stepColumn, stepUpTo, stepTable}
 use Rattle.cells.specs.Close.{copyTable, settled, someOpen, closeTable}
@@ -22,10 +22,10 @@ module _
     -- the columns from j on
     pub stepUpTo-keeps :
         (j : ℕ)
-        → ((k : ℕ) (t : Table) → j ≤ k → k < depth J → P t (stepColumn J n k t))
+        → ((k : ℕ) (t : Table) → j ≤ k → k < subformulaCount J → P t (stepColumn J n k t))
         → (k : ℕ) (t : Table)
         → j ≤ k
-        → k ≤ depth J
+        → k ≤ subformulaCount J
         → P (stepUpTo J n j t) (stepUpTo J n k t)
     unfolding stepUpTo
     stepUpTo-keeps j column zero t m l = let none : j ≡ 0 = omega arith in rw none (still t)
@@ -37,9 +37,9 @@ module _
         after (stepUpTo J n j t) u (stepColumn J n k u) (stepUpTo-keeps j column k t m′ (omega arith)) (column k u m′ l))
         (λ same. rw same (still (stepUpTo J n (suc k) t)))
 
-    pub stepTable-keeps : ((k : ℕ) (t : Table) → k < depth J → P t (stepColumn J n k t)) → (t : Table) → P t (stepTable J n t)
+    pub stepTable-keeps : ((k : ℕ) (t : Table) → k < subformulaCount J → P t (stepColumn J n k t)) → (t : Table) → P t (stepTable J n t)
     unfolding stepTable stepUpTo
-    stepTable-keeps column t = stepUpTo-keeps 0 (λ k u m. column k u) (depth J) t (omega arith) (le-refl (depth J))
+    stepTable-keeps column t = stepUpTo-keeps 0 (λ k u m. column k u) (subformulaCount J) t (omega arith) (le-refl (subformulaCount J))
 
 -- A round and finish, from steps, copying, and close where it is not refused.
 pub record Parts (J : Job) (P : Table → Table → Type 0) : Type 0 where

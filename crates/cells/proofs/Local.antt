@@ -12,26 +12,27 @@ use lib.Dec.{eqb}
 use lib.ListN.{getD}
 use Rattle.law.proofs.Bool.{split, cond-false, and-left, and-right}
 use Rattle.law.proofs.Bounded.{by-equal}
-use Rattle.job.specs.Job.{Job, size, depth, subformula}
-use Rattle.job.specs.Written.{edgeOf, edgeCount, Operands}
+use Rattle.job.specs.Job.{Job, size, subformulaCount}
+use Rattle.job.specs.Rule.{ruleAt, InRange}
+use Rattle.job.specs.Written.{edgeOf, edgeCount}
 use Rattle.cells.specs.Fragment.{inFragment}
 use Rattle.cells.specs.Table.{Table, index, nodeOf, stateOf, subformulaOf, cell, isEmpty}
 use Rattle.cells.specs.Step.{column, stepColumn, stepUpTo, stepTable}
 use Rattle.cells.proofs.Index.{nodeOf-index, subformulaOf-index}
 use Rattle.cells.proofs.Fill.{fill-left, fill-cell}
 use Rattle.cells.proofs.Kept.{stepTable-keeps}
-use Rattle.cells.proofs.Columns.{Read, kind, column-same}
+use Rattle.cells.proofs.Columns.{Read, column-same}
 
 -- What the step of node n has for column k of table t.
 abbrev pub columnOf : Job → ℕ → ℕ → Table → List ℕ
-columnOf J n k t = column J n (λ j s. cell J t n s j) k (subformula (J .formula) k)
+columnOf J n k t = column J n (λ j s. cell J t n s j) k (ruleAt J k)
 
 -- The cells of a column, and the others.
 module _ (J : Job) (n k : ℕ) (t : Table) where
   pub stepColumn-cell :
       (s : ℕ)
       → s < size J
-      → k < depth J
+      → k < subformulaCount J
       → cell J (stepColumn J n k t) n s k
       ≡ cond (isEmpty (cell J t n s k) && inFragment J n s) (getD (columnOf J n k t) s 2) (cell J t n s k)
   unfolding stepColumn
@@ -47,13 +48,13 @@ module _ (J : Job) (n k : ℕ) (t : Table) where
       (λ e. absurd (apart (eqb-true (nodeOf J i) n (and-left a b e)) (eqb-true (subformulaOf J i) k (and-right a b e))))
       (cond-false (a && b) (getD (columnOf J n k t) (stateOf J i) 2) 2))
 
-  pub stepColumn-other : (m s j : ℕ) → j < depth J → (j ≡ k → ⊥) → cell J (stepColumn J n k t) m s j ≡ cell J t m s j
+  pub stepColumn-other : (m s j : ℕ) → j < subformulaCount J → (j ≡ k → ⊥) → cell J (stepColumn J n k t) m s j ≡ cell J t m s j
   unfolding cell
   stepColumn-other m s j c apart =
       stepColumn-left (index J m s j) (λ x y. apart (sym (subformulaOf-index J m s j c) ∙ y))
 
   pub stepColumn-node :
-      (m s j : ℕ) → s < size J → j < depth J → (m ≡ n → ⊥) → cell J (stepColumn J n k t) m s j ≡ cell J t m s j
+      (m s j : ℕ) → s < size J → j < subformulaCount J → (m ≡ n → ⊥) → cell J (stepColumn J n k t) m s j ≡ cell J t m s j
   unfolding cell
   stepColumn-node m s j b c apart =
       stepColumn-left (index J m s j) (λ x y. apart (sym (nodeOf-index J m s j b c) ∙ x))
@@ -62,7 +63,7 @@ module _ (J : Job) (n k : ℕ) (t : Table) where
 pub stepTable-node :
     (J : Job) (n : ℕ) (t : Table) (m s j : ℕ)
     → s < size J
-    → j < depth J
+    → j < subformulaCount J
     → (m ≡ n → ⊥)
     → cell J (stepTable J n t) m s j ≡ cell J t m s j
 stepTable-node J n t m s j b c apart =
@@ -71,22 +72,21 @@ stepTable-node J n t m s j b c apart =
 
 -- Two tables that agree on the cells of node n agree on them after its step.
 abbrev pub Agree : Job → ℕ → Table → Table → Type 0
-Agree J n t u = (s j : ℕ) → s < size J → j < depth J → cell J t n s j ≡ cell J u n s j
+Agree J n t u = (s j : ℕ) → s < size J → j < subformulaCount J → cell J t n s j ≡ cell J u n s j
 
 module _
-    (J : Job) (operands : (k : ℕ) → k < depth J → Operands k (subformula (J .formula) k))
+    (J : Job) (operands : (k : ℕ) → k < subformulaCount J → InRange k (ruleAt J k))
     (ends : (e : ℕ) → e < edgeCount J → edgeOf J e .to < size J) (n : ℕ)
   where
     pub read-lt : (s : ℕ) → Read J s → s < size J
     read-lt s = ⊎-elim (λ l. l) (λ (e, l, q). rw (← q) (ends e l))
 
-    column-agrees : (t u : Table) → Agree J n t u → (k : ℕ) → k < depth J → columnOf J n k t ≡ columnOf J n k u
+    column-agrees : (t u : Table) → Agree J n t u → (k : ℕ) → k < subformulaCount J → columnOf J n k t ≡ columnOf J n k u
     column-agrees t u same k l =
-        let f = subformula (J .formula) k in
         column-same J n k (λ j s. cell J t n s j) (λ j s. cell J u n s j)
-        (λ j h s r. same s j (read-lt s r) (omega arith)) (λ s h. same s k h l) f (kind J n k f (operands k l))
+        (λ j h s r. same s j (read-lt s r) (omega arith)) (λ s h. same s k h l) (ruleAt J k) (operands k l)
 
-    pub stepColumn-agrees : (t u : Table) → Agree J n t u → (k : ℕ) → k < depth J → Agree J n (stepColumn J n k t) (stepColumn J n k u)
+    pub stepColumn-agrees : (t u : Table) → Agree J n t u → (k : ℕ) → k < subformulaCount J → Agree J n (stepColumn J n k t) (stepColumn J n k u)
     stepColumn-agrees t u same k l s j b c =
         by-equal j k
         (λ e.
@@ -94,7 +94,7 @@ module _
         (stepColumn-cell J n k t s b l ∙ rw (column-agrees t u same k l, same s k b l) (sym (stepColumn-cell J n k u s b l))))
         (λ apart. stepColumn-other J n k t n s j c apart ∙ same s j b c ∙ sym (stepColumn-other J n k u n s j c apart))
 
-    stepUpTo-agrees : (t u : Table) → Agree J n t u → (k : ℕ) → k ≤ depth J → Agree J n (stepUpTo J n k t) (stepUpTo J n k u)
+    stepUpTo-agrees : (t u : Table) → Agree J n t u → (k : ℕ) → k ≤ subformulaCount J → Agree J n (stepUpTo J n k t) (stepUpTo J n k u)
     unfolding stepUpTo
     stepUpTo-agrees t u same zero l = same
     stepUpTo-agrees t u same (suc k) l =
@@ -102,4 +102,4 @@ module _
 
     pub stepTable-agrees : (t u : Table) → Agree J n t u → Agree J n (stepTable J n t) (stepTable J n u)
     unfolding stepTable
-    stepTable-agrees t u same = stepUpTo-agrees t u same (depth J) (le-refl (depth J))
+    stepTable-agrees t u same = stepUpTo-agrees t u same (subformulaCount J) (le-refl (subformulaCount J))

@@ -1,18 +1,20 @@
 -- C1 to C10, and the cases that tell what is ruled out, follow from the definitions: both sides are computed. Assumes nothing.
 use mathlib.Core.Path.{_≡_, refl}
 use mathlib.Core.List.{map}
+use mathlib.Core.Option.{Option·elim}
 use Rattle.law.specs.Bounded.{first, all, any, count}
-use Rattle.law.specs.Lists.{from, tab, flatten, every, some, firstNo}
-use Rattle.law.specs.Fixpoint.{member, pass, passes as fixpoint-passes, least, greatest}
-use Rattle.job.specs.Questions.{passes as text-passes, numberOf as text-numberOf, headQuestions, lineQuestions, questions as text-questions, yes, noLine, within, inRanges, formedLine, stateOk, less, ascends, edgeOk, hasEdgeOut, formulaOk, asked, refusal as text-refusal}
-use Rattle.cells.specs.Questions.{passes as questions-passes, numberOf as questions-numberOf, lineOf as questions-lineOf}
-use Rattle.job.specs.Field.{digits, columns, field, wellFormed, value}
-use Rattle.job.specs.Layout.{numberAt, formed, states, edges, subformulas, nodes, lengthOf, stateAt, edgeAt, subformulaAt, owner as text-owner, label, source, target, kind, left as text-left, right, lines, fieldsOf, lineAt}
-use Rattle.job.specs.Job.{owner as job-owner, atom, edge, dual, over, size, depth, subformula, decode}
-use Rattle.cells.specs.Calls.{left as calls-left, questions as calls-questions, refusal as calls-refusal, nodeRead, ownQuestions, width, told, answerUnless, afterUnless, answer, after}
-use Rattle.job.specs.Formula.{atomic, unary, binary, parsed, isFormula, formula, temporal}
+use Rattle.law.specs.Lists.{from, tab, flatten, every, some}
+use Rattle.law.specs.Fixpoint.{member, pass, passes, least, greatest}
+use Rattle.job.specs.Question.{ofCall, allYes, refusal, answered, afterwards}
+use Rattle.job.specs.Questions.{ofLineOne, ofLines, firstLine, ranges, textLength, lineFields, stateLines, edgeLines, edgesOut, formulaLines, headQuestions, lineQuestions, textQuestions, within, inRanges, formedLine, stateOk, less, ascends, edgeOk, hasEdgeOut, formulaOk}
+use Rattle.cells.specs.Questions.{tableSize, tableCells, nodeBelow, nodeOr255, numbersBelow, temporalNamed, ownerFilled, truthValue, stateAtBorder, cellAgrees, stateInFragment, tableSettled, someOwnerEmpty}
+use Rattle.text.specs.Field.{digits, columns, field, wellFormed, value, numberAt, formed}
+use Rattle.job.specs.Layout.{states, edges, subformulas, nodes, lengthOf, stateAt, edgeAt, subformulaAt, owner as text-owner, label, source, target, kind, left as text-left, right, lines, fieldsOf, lineAt}
+use Rattle.job.specs.Job.{owner as job-owner, atom, edge, dual, over, size, subformulaCount, subformula, decode}
+use Rattle.cells.specs.Calls.{left as calls-left, questions, nodeRead, ownQuestions, width, told, answer, after}
+use Rattle.job.specs.Formula.{atomic, unary, binary, parsed, isFormula, formula}
 use Rattle.job.specs.Answer.{numbers}
-use Rattle.job.specs.Read.{unless, readAnswer, readTold, lineOf as text-lineOf}
+use Rattle.job.specs.Read.{readAnswer, readTold, lineOf}
 use Rattle.cells.specs.Fragment.{owns, inFragment, edgeOut, border, inner}
 use Rattle.cells.specs.Table.{tableLength, index, nodeOf, stateOf, subformulaOf, cell, ownerCell, isEmpty, inside, cellsRight, freshTable, fillAt, fill, filled, emptyCells}
 use Rattle.cells.specs.SetRule.{joins, smallest, stays, largest, bySets}
@@ -23,7 +25,7 @@ use Rattle.cells.specs.Cases.{verdict as cases-verdict, bytes, answers, 
 use Rattle.cells.specs.RuledOut.{ruledOut}
 
 unfoldable pub printed : map computed cases ≡ cases
-unfolding first all any count from tab flatten every some firstNo member pass fixpoint-passes text-passes questions-passes least greatest digits columns field wellFormed value numberAt formed states edges subformulas nodes lengthOf stateAt edgeAt subformulaAt text-owner job-owner label source target kind text-left calls-left right lines fieldsOf lineAt atomic unary binary parsed isFormula formula temporal text-numberOf questions-numberOf headQuestions lineQuestions text-questions calls-questions yes noLine within inRanges formedLine stateOk less ascends edgeOk hasEdgeOut formulaOk asked text-refusal calls-refusal numbers unless readAnswer readTold text-lineOf questions-lineOf atom edge dual over size depth subformula decode owns inFragment edgeOut border inner tableLength index nodeOf stateOf subformulaOf cell ownerCell isEmpty inside cellsRight freshTable fillAt fill filled emptyCells joins smallest stays largest bySets opposite both next column stepColumn stepUpTo stepTable isTemporal acceptTable copyTable stepsDone copiesDone settled open? smallestOpen someOpen closeTable stepsUpTo exchange closing round roundsFrom finish finish-verdict cases-verdict nodeRead ownQuestions width told answerUnless afterUnless answer after bytes answers tableAfter jobV job2 job3 job4 job6 job10 cases zeros computed
+unfolding first all any count from tab flatten every some member pass passes least greatest digits columns field wellFormed value numberAt formed states edges subformulas nodes lengthOf stateAt edgeAt subformulaAt text-owner job-owner label source target kind text-left calls-left right lines fieldsOf lineAt atomic unary binary parsed isFormula formula ofCall allYes refusal Option·elim answered afterwards ofLineOne ofLines firstLine ranges textLength lineFields stateLines edgeLines edgesOut formulaLines headQuestions lineQuestions textQuestions within inRanges formedLine stateOk less ascends edgeOk hasEdgeOut formulaOk numbers readAnswer readTold lineOf atom edge dual over size subformulaCount subformula decode owns inFragment edgeOut border inner tableLength index nodeOf stateOf subformulaOf cell ownerCell isEmpty inside cellsRight freshTable fillAt fill filled emptyCells joins smallest stays largest bySets opposite both next column stepColumn stepUpTo stepTable isTemporal acceptTable copyTable stepsDone copiesDone settled open? smallestOpen someOpen closeTable stepsUpTo exchange closing round roundsFrom finish finish-verdict cases-verdict tableSize tableCells nodeBelow nodeOr255 numbersBelow temporalNamed ownerFilled truthValue stateAtBorder cellAgrees stateInFragment tableSettled someOwnerEmpty nodeRead ownQuestions questions width told answer after bytes answers tableAfter jobV job2 job3 job4 job6 job10 cases zeros computed
 printed = refl
 
 -- by the same definitions

@@ -14,13 +14,16 @@ use Rattle.law.specs.Fixpoint.{member}
 use Rattle.law.proofs.Bool.{split, and-intro, and-left, and-right, or-left, or-right, or-cases, clash}
 use Rattle.law.proofs.Bounded.{by-order, by-equal, all-intro, all-elim}
 use Rattle.law.proofs.Lists.{tab-length, tab-at}
-use Rattle.job.specs.Job.{Job, Quantifier, forAll, exists, dual, over, size, owner, atom, subformula}
-use Rattle.job.specs.declared.subformula.Subformula.{Subformula}
-use Rattle.job.specs.declared.subformula.Subformula.the-variants.{Atom, Not, And, Ax, Ex, Au, Eu}
+use Rattle.job.specs.Job.{Job, Quantifier, dual, over, size, owner, atom, subformula}
+use Rattle.job.specs.Rule.{ruleAt, quantifier, closedValue, Valued}
+use Rattle.job.specs.declared.rule.Rule.{Rule}
+use Rattle.job.specs.declared.rule.Rule.the-variants.{Atom, Not, And, Next, Sets}
+use Rattle.job.proofs.Formula.{rule-valued}
+use Rattle.job.proofs.RuleLaws.{closed-bound}
 use Rattle.cells.specs.Fragment.{inner, border}
 use Rattle.cells.specs.Table.{Table, index, nodeOf, stateOf, subformulaOf, cell, ownerCell, isEmpty, inside, cellsRight, freshTable, fill}
-use Rattle.cells.specs.SetRule.{SetRule, smallest, largest, bySets}
-use Rattle.cells.specs.Step.{opposite, both, next, untilRule, column, stepColumn, stepTable}
+use Rattle.cells.specs.SetRule.{SetRule, setRule, smallest, largest, bySets}
+use Rattle.cells.specs.Step.{opposite, both, next, column, stepColumn, stepTable}
 use Rattle.cells.specs.Close.{isTemporal, acceptTable, copyTable, smallestOpen, closeTable}
 use Rattle.cells.specs.Finish.{round, finish}
 use Rattle.cells.proofs.Fill.{empty-is, is-empty, fill-length, fill-filled, fill-outside, fill-new}
@@ -140,16 +143,15 @@ bySets-small J n own R v =
     (cond-small (member G s) (1 - R .value) 2 (other-small (R .value)) (le-refl 2)))
     (size J)
 
-pub column-small : (J : Job) (n : ℕ) (at : ℕ → ℕ → ℕ) (k : ℕ) (f : Subformula) (s : ℕ) → getD (column J n at k f) s 2 ≤ 2
-unfolding column
-column-small J n at k (Atom j) =
+pub column-small :
+    (J : Job) (n : ℕ) (at : ℕ → ℕ → ℕ) (k : ℕ) (r : Rule) → Valued r → (s : ℕ) → getD (column J n at k r) s 2 ≤ 2
+unfolding column Valued
+column-small J n at k (Atom j) o =
     tab-small _ (λ s. cond-small (atom (J .structure) j s) 1 0 one-small (other-small 1)) (size J)
-column-small J n at k (Not a) = tab-small _ (λ s. opposite-small (at a s)) (size J)
-column-small J n at k (And a b) = tab-small _ (λ s. both-small (at a s) (at b s)) (size J)
-column-small J n at k (Ax a) = tab-small _ (next-small J n forAll (at a)) (size J)
-column-small J n at k (Ex a) = tab-small _ (next-small J n exists (at a)) (size J)
-column-small J n at k (Au a b) = bySets-small J n (at k) (untilRule forAll (at a) (at b)) one-small
-column-small J n at k (Eu a b) = bySets-small J n (at k) (untilRule exists (at a) (at b)) one-small
+column-small J n at k (Not a) o = tab-small _ (λ s. opposite-small (at a s)) (size J)
+column-small J n at k (And a b) o = tab-small _ (λ s. both-small (at a s) (at b s)) (size J)
+column-small J n at k (Next all a) o = tab-small _ (next-small J n (quantifier all) (at a)) (size J)
+column-small J n at k (Sets all b a v) o = bySets-small J n (at k) (setRule (quantifier all) (at b) (at a) v) (omega arith)
 
 -- So each call keeps the table right, an accept of a value that passes question 15.
 module _ (J : Job) where
@@ -160,10 +162,11 @@ module _ (J : Job) where
   unfolding stepColumn
   stepColumn-right n k t =
       let at : ℕ → ℕ → ℕ = λ i u. cell J t n u i in
-      let f = subformula (J .formula) k in
+      let r = ruleAt J k in
       fill-right J _
       (λ m s j.
-      cond-small (eqb m n && eqb j k) (getD (column J n at k f) s 2) 2 (column-small J n at k f s) (le-refl 2)) t
+      cond-small (eqb m n && eqb j k) (getD (column J n at k r) s 2) 2
+      (column-small J n at k r (rule-valued (subformula (J .formula) k)) s) (le-refl 2)) t
 
   pub acceptTable-right : (n s k v : ℕ) → v ≤ 2 → (t : Table) → Right J t → Right J (acceptTable J n s k v t)
   unfolding acceptTable
@@ -179,7 +182,10 @@ module _ (J : Job) where
 
   pub closeTable-right : (t : Table) → Right J t → Right J (closeTable J t)
   unfolding closeTable
-  closeTable-right t = fill-right J _ (λ m s j. none-small (eqb j (smallestOpen J t))) t
+  closeTable-right t =
+      let value = closedValue (ruleAt J (smallestOpen J t)) in
+      fill-right J _
+      (λ m s j. cond-small (eqb j (smallestOpen J t)) value 2 (omega (arith, closed-bound (ruleAt J (smallestOpen J t)))) (le-refl 2)) t
 
   pub stepTable-right : (n : ℕ) (t : Table) → Right J t → Right J (stepTable J n t)
   stepTable-right n =

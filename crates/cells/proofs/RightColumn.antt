@@ -1,55 +1,49 @@
 -- The values that a step has for the cells of a subformula are right where the cells that it reads are. Assumes nothing.
 use Prim.Native.Nat.{ℕ, _<_, _≤_}
 use mathlib.Core.Bool.{Bool, cond}
-use native.Mathlib.Nat.{le-refl}
 use lib.ListN.{getD}
 use Rattle.law.proofs.Lists.{tab-at}
-use Rattle.job.specs.Job.{Job, forAll, exists, size, atom}
-use Rattle.job.specs.Written.{IsJob, Operands}
-use Rattle.job.specs.declared.subformula.Subformula.{Subformula}
-use Rattle.job.specs.declared.subformula.Subformula.the-variants.{Atom, Not, And, Ax, Ex, Au, Eu}
-use Rattle.ctl.specs.Labelling.{label}
-use Rattle.cells.specs.Step.{opposite, both, next, untilRule, column}
-use Rattle.cells.proofs.Tells.{Tells, atom-tells, opposite-tells, both-tells, next-tells}
-use Rattle.cells.proofs.RightSets.{Telling, bySets-tells}
+use Rattle.job.specs.Job.{Job, size, atom}
+use Rattle.job.specs.Rule.{InRange, quantifier}
+use Rattle.job.specs.Written.{IsJob}
+use Rattle.job.specs.declared.rule.Rule.{Rule}
+use Rattle.job.specs.declared.rule.Rule.the-variants.{Atom, Not, And, Next, Sets}
+use Rattle.ctl.specs.Labelling.{reached, label}
+use Rattle.cells.specs.SetRule.{setRule, bySets}
+use Rattle.cells.specs.Step.{opposite, both, next, column}
+use Rattle.cells.proofs.Tells.{Tells, atom-tells, opposite-tells, both-tells, next-tells, tells-valued, valued-tells}
+use Rattle.cells.proofs.RightSets.{target, Telling, bySets-tells}
 
--- The cells `at` of a node, by subformula and state, that the column of a subformula f of number k reads are right about the
--- truths T of smaller subformulas, and so are its own.
-pub record Reads (J : Job) (T : ℕ → ℕ → Bool) (k : ℕ) (f : Subformula) (at : ℕ → ℕ → ℕ) : Type 0 where
+-- The cells `at` of a node, by subformula and state, that the column of subformula k by rule r reads are right about the truths T of
+-- smaller subformulas, and so are its own.
+pub record Reads (J : Job) (T : ℕ → ℕ → Bool) (k : ℕ) (r : Rule) (at : ℕ → ℕ → ℕ) : Type 0 where
   pub low : (j s : ℕ) → at j s ≤ 2
   pub operands : (j s : ℕ) → j < k → s < size J → Tells 1 (at j s) (T j s)
-  pub own : (s : ℕ) → s < size J → Tells 1 (at k s) (label (J .structure) T f s)
+  pub own : (s : ℕ) → s < size J → Tells 1 (at k s) (label (J .structure) T r s)
 
 module _ (J : Job) (T : ℕ → ℕ → Bool) (k : ℕ) (at : ℕ → ℕ → ℕ) where
-  pub reads-always :
-      (a b : ℕ) → Operands k (Au a b) → Reads J T k (Au a b) at → Telling J (at k) (untilRule forAll (at a) (at b)) (T b) (T a)
-  unfolding Operands label
-  reads-always a b o reads =
+  pub reads-sets :
+      (all : Bool) (b a v : ℕ)
+      → InRange k (Sets all b a v)
+      → Reads J T k (Sets all b a v) at
+      → Telling J (at k) (setRule (quantifier all) (at b) (at a) v) (T b) (T a)
+  unfolding InRange label
+  reads-sets all b a v (lb, la, small) reads =
       record {
-        owns = reads .own;
-        starts = λ s. reads .operands b s (o .1);
-        grows = λ s. reads .operands a s (o .0);
-      }
-
-  pub reads-sometimes :
-      (a b : ℕ) → Operands k (Eu a b) → Reads J T k (Eu a b) at → Telling J (at k) (untilRule exists (at a) (at b)) (T b) (T a)
-  unfolding Operands label
-  reads-sometimes a b o reads =
-      record {
-        owns = reads .own;
-        starts = λ s. reads .operands b s (o .1);
-        grows = λ s. reads .operands a s (o .0);
+        owns = λ s l. valued-tells v (at k s) (reached (J .structure) (quantifier all) (T b) (T a) s) small (reads .own s l);
+        starts = λ s. reads .operands b s lb;
+        grows = λ s. reads .operands a s la;
       }
 
   module _ (job : IsJob J) (n : ℕ) where
     pub column-tells :
-        (f : Subformula)
-        → Operands k f
-        → Reads J T k f at
+        (r : Rule)
+        → InRange k r
+        → Reads J T k r at
         → (s : ℕ)
         → s < size J
-        → Tells 1 (getD (column J n at k f) s 2) (label (J .structure) T f s)
-    unfolding column Operands label
+        → Tells 1 (getD (column J n at k r) s 2) (label (J .structure) T r s)
+    unfolding column InRange label
     column-tells (Atom j) o reads s l =
         rw (tab-at (λ u. cond {A = ℕ} (atom (J .structure) j u) 1 0) (size J) s 2 l) (atom-tells (atom (J .structure) j s))
     column-tells (Not a) o reads s l =
@@ -58,13 +52,10 @@ module _ (J : Job) (T : ℕ → ℕ → Bool) (k : ℕ) (at : ℕ → ℕ → �
     column-tells (And a b) o reads s l =
         rw (tab-at (λ u. both (at a u) (at b u)) (size J) s 2 l)
         (both-tells (at a s) (at b s) (T a s) (T b s) (reads .operands a s (o .0) l) (reads .operands b s (o .1) l))
-    column-tells (Ax a) o reads s l =
-        rw (tab-at (next J n forAll (at a)) (size J) s 2 l)
-        (next-tells J job n forAll (at a) (T a) (λ u. reads .operands a u o) s)
-    column-tells (Ex a) o reads s l =
-        rw (tab-at (next J n exists (at a)) (size J) s 2 l)
-        (next-tells J job n exists (at a) (T a) (λ u. reads .operands a u o) s)
-    column-tells (Au a b) o reads s l =
-        bySets-tells J n (at k) (untilRule forAll (at a) (at b)) (T b) (T a) (reads-always a b o reads) (le-refl 1) s l
-    column-tells (Eu a b) o reads s l =
-        bySets-tells J n (at k) (untilRule exists (at a) (at b)) (T b) (T a) (reads-sometimes a b o reads) (le-refl 1) s l
+    column-tells (Next all a) o reads s l =
+        rw (tab-at (next J n (quantifier all) (at a)) (size J) s 2 l)
+        (next-tells J job n (quantifier all) (at a) (T a) (λ u. reads .operands a u o) s)
+    column-tells (Sets all b a v) o reads s l =
+        let R = setRule (quantifier all) (at b) (at a) v in
+        tells-valued v (getD (bySets J n (at k) R) s 2) (target J R (T b) (T a) s) (o .2)
+        (bySets-tells J n (at k) R (T b) (T a) (reads-sets all b a v o reads) (o .2) s l)

@@ -8,7 +8,7 @@ use mathlib.Core.List.{List}
 use lib.ListN.{getD}
 use Rattle.law.specs.Fixpoint.{member}
 use Rattle.law.proofs.Bool.{split, clash}
-use Rattle.job.specs.Job.{Job, Quantifier, size, over}
+use Rattle.job.specs.Job.{Job, size, over}
 use Rattle.ctl.specs.Labelling.{reached}
 use Rattle.cells.specs.SetRule.{SetRule, smallest, largest, bySets}
 use Rattle.cells.specs.Sets.{Joins, already, starts, grows, Stays, other, blocked, follows}
@@ -18,9 +18,6 @@ use Rattle.job.proofs.Successors.{over-within, over-share}
 use Rattle.ctl.proofs.Reached.{reached-start, reached-grow, reached-state}
 use Rattle.ctl.proofs.Reached.{reached-turns}
 use Rattle.cells.proofs.Tells.{Tells}
-
-abbrev pub setRule : Quantifier → (ℕ → ℕ) → (ℕ → ℕ) → ℕ → SetRule
-setRule q b a v = record { quantifier = q; start = b; grow = a; value = v }
 
 -- The least set of the uncut structure that a rule speaks of, for the truths b of its start and a of its growing.
 abbrev pub target : Job → SetRule → (ℕ → Bool) → (ℕ → Bool) → ℕ → Bool

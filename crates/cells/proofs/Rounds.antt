@@ -8,8 +8,8 @@ use native.Mathlib.Omega.{arith}
 use lib.Dec.{eqb}
 use borrow.Author.Tests.{eqb-true, eqb-false, ltb-true, ltb-false}
 use Rattle.law.proofs.Bool.{split, clash, and-intro, cond-true, cond-false}
-use Rattle.law.proofs.Bounded.{below-suc, by-order, by-equal, first-before, any-no}
-use Rattle.job.specs.Job.{Job, size, depth, owner}
+use Rattle.law.proofs.Bounded.{below-suc, by-equal, first-before, any-no}
+use Rattle.job.specs.Job.{Job, size, subformulaCount, owner}
 use Rattle.job.specs.Written.{IsJob}
 use Rattle.cells.specs.Table.{Table, ownerCell, isEmpty, filled}
 use Rattle.cells.specs.Step.{stepTable}
@@ -46,7 +46,7 @@ module _ (J : Job) (t : Table) where
 
 -- Every owner's cell is filled.
 abbrev pub Complete : Job → Table → Type 0
-Complete J t = (s k : ℕ) → s < size J → k < depth J → Filled (ownerCell J t s k)
+Complete J t = (s k : ℕ) → s < size J → k < subformulaCount J → Filled (ownerCell J t s k)
 
 module _ (J : Job) (job : IsJob J) where
   -- a settled table of which close is refused with 20
@@ -60,7 +60,7 @@ module _ (J : Job) (job : IsJob J) where
       (λ e.
       clash (own s) (is-empty c e)
       (any-no own (size J)
-      (first-before (open? J t) (depth J) k (omega (arith, ltb-false (smallestOpen J t) (depth J) f))) s l))
+      (first-before (open? J t) (subformulaCount J) k (omega (arith, ltb-false (smallestOpen J t) (subformulaCount J) f))) s l))
       (λ n. omega arith)
 
   pub round-idle : (t : Table) → Formed J t → filled t (round J t) ≡ 0 → Complete J t
@@ -80,12 +80,8 @@ module _ (J : Job) (job : IsJob J) where
       ∙ cond-true (settled J t && someOpen J t) (closeTable J t) t (and-intro (settled J t) (someOpen J t) still some) in
       let fills =
       close-fills J job t formed (settled-is J t (formed .long) still)
-      (unfold someOpen in ltb-true (smallestOpen J t) (depth J) some) in
+      (unfold someOpen in ltb-true (smallestOpen J t) (subformulaCount J) some) in
       let zero = rw closed at none in
       absurd (omega arith))
       (none-open t formed))
       (λ e. absurd (eqb-false (filled t u) 0 e (rw (cond-false test c u e) at none)))
-
-  pub round-fills : (t : Table) → Formed J t → (Complete J t → ⊥) → 0 < filled t (round J t)
-  round-fills t formed lacks =
-      by-order 0 (filled t (round J t)) (λ l. l) (λ none. absurd (lacks (round-idle t formed (omega arith))))

@@ -10,7 +10,7 @@ use lib.Dec.{eqb}
 use borrow.Author.Tests.{eqb-true, eq-eqb, not-true}
 use Rattle.law.proofs.Bool.{split, clash, and-four, and-intro, and-left, and-right, cond-true, not-is-true}
 use Rattle.law.proofs.Bounded.{all-intro, all-elim, by-equal}
-use Rattle.job.specs.Job.{Job, size, depth}
+use Rattle.job.specs.Job.{Job, size, subformulaCount}
 use Rattle.cells.specs.Fragment.{inFragment, border}
 use Rattle.cells.specs.Table.{Table, tableLength, index, nodeOf, stateOf, subformulaOf, cell, ownerCell, isEmpty, filled, inside}
 use Rattle.cells.specs.Step.{stepTable}
@@ -28,7 +28,7 @@ pub record Settled (J : Job) (t : Table) : Type 0 where
       (n s k : ℕ)
       → n < J .nodes
       → s < size J
-      → k < depth J
+      → k < subformulaCount J
       → inFragment J n s ≡ true
       → cell J t n s k ≡ 2
       → getD (columnOf J n k t) s 2 ≡ 2
@@ -36,7 +36,7 @@ pub record Settled (J : Job) (t : Table) : Type 0 where
       (n s k : ℕ)
       → n < J .nodes
       → s < size J
-      → k < depth J
+      → k < subformulaCount J
       → border J n s ≡ true
       → isTemporal J k ≡ true
       → cell J t n s k ≡ 2

@@ -9,7 +9,8 @@ use lib.ListN.{length, getD, getD-replicate}
 use lib.Dec.{eqb}
 use borrow.Author.Tests.{eqb-true}
 use Rattle.law.proofs.Bool.{and-left, and-right}
-use Rattle.job.specs.Job.{Job, size, depth, owner, subformula}
+use Rattle.job.specs.Job.{Job, size, subformulaCount, owner}
+use Rattle.job.specs.Rule.{ruleAt}
 use Rattle.job.specs.Written.{IsJob}
 use Rattle.ctl.specs.Labelling.{sat}
 use Rattle.ctl.proofs.Labelling.{sat-label}
@@ -29,7 +30,7 @@ truth J k s = sat (J .structure) (J .formula) k s
 
 pub record Sound (J : Job) (t : Table) : Type 0 where
   pub formed : Formed J t
-  pub tells : (n s k : ℕ) → n < J .nodes → s < size J → k < depth J → Tells 1 (cell J t n s k) (truth J k s)
+  pub tells : (n s k : ℕ) → n < J .nodes → s < size J → k < subformulaCount J → Tells 1 (cell J t n s k) (truth J k s)
 
 -- A fresh table has no filled cell.
 pub freshTable-sound : (J : Job) (t : Table) → length t ≡ tableLength J → Sound J (freshTable t)
@@ -51,14 +52,14 @@ pub fill-tells :
     → ((n s k : ℕ)
     → n < J .nodes
     → s < size J
-    → k < depth J
+    → k < subformulaCount J
     → cell J t n s k ≡ 2
     → inFragment J n s ≡ true
     → Tells 1 (new n s k) (truth J k s))
     → (n s k : ℕ)
     → n < J .nodes
     → s < size J
-    → k < depth J
+    → k < subformulaCount J
     → Tells 1 (cell J (fill J new t) n s k) (truth J k s)
 unfolding isEmpty
 fill-tells J t sound new right n s k a b c =
@@ -75,9 +76,9 @@ module _ (J : Job) (job : IsJob J) (t : Table) (sound : Sound J t) where
   pub sound-reads :
       (n k : ℕ)
       → n < J .nodes
-      → k < depth J
-      → Reads J (truth J) k (subformula (J .formula) k) (λ j s. cell J t n s j)
-  unfolding depth
+      → k < subformulaCount J
+      → Reads J (truth J) k (ruleAt J k) (λ j s. cell J t n s j)
+  unfolding subformulaCount
   sound-reads n k a c =
       record {
         low = λ j s. cell-low J t (sound .formed) n s j;
@@ -85,12 +86,12 @@ module _ (J : Job) (job : IsJob J) (t : Table) (sound : Sound J t) where
         own = λ s l. rw (sat-label (J .structure) (J .formula) (job .operands) k c s) at (sound .tells n s k a l c);
       }
 
-  pub stepColumn-sound : (n k : ℕ) → n < J .nodes → k < depth J → Sound J (stepColumn J n k t)
-  unfolding stepColumn depth
+  pub stepColumn-sound : (n k : ℕ) → n < J .nodes → k < subformulaCount J → Sound J (stepColumn J n k t)
+  unfolding stepColumn subformulaCount
   stepColumn-sound n k a c =
-      let f = subformula (J .formula) k in
+      let r = ruleAt J k in
       let at : ℕ → ℕ → ℕ = λ j s. cell J t n s j in
-      let values = column J n at k f in
+      let values = column J n at k r in
       record {
         formed = stepColumn-formed J t (sound .formed) n k;
         tells =
@@ -102,12 +103,12 @@ module _ (J : Job) (job : IsJob J) (t : Table) (sound : Sound J t) where
               eqb-true j k (and-right (eqb m n) (eqb j k) here),
               sat-label (J .structure) (J .formula) (job .operands) k c s,
             )
-            (column-tells J (truth J) k at job n f (job .operands k c) (sound-reads n k a c) s l))
+            (column-tells J (truth J) k at job n r (job .operands k c) (sound-reads n k a c) s l))
             (λ away. empty-tells (truth J j s)));
       }
 
   -- the message that an offer hands out is true
-  pub ownerCell-tells : (s k : ℕ) → s < size J → k < depth J → Tells 1 (ownerCell J t s k) (truth J k s)
+  pub ownerCell-tells : (s k : ℕ) → s < size J → k < subformulaCount J → Tells 1 (ownerCell J t s k) (truth J k s)
   unfolding ownerCell
   ownerCell-tells s k b = sound .tells (owner J s) s k (job .owners s b) b
 
@@ -144,11 +145,11 @@ module _ (J : Job) (job : IsJob J) (t : Table) (sound : Sound J t) where
 
 -- The columns of a step, and the whole.
 module _ (J : Job) (job : IsJob J) (n : ℕ) (node : n < J .nodes) (t : Table) (sound : Sound J t) where
-  pub stepUpTo-sound : (k : ℕ) → k ≤ depth J → Sound J (stepUpTo J n k t)
+  pub stepUpTo-sound : (k : ℕ) → k ≤ subformulaCount J → Sound J (stepUpTo J n k t)
   unfolding stepUpTo
   stepUpTo-sound zero l = sound
   stepUpTo-sound (suc k) l = stepColumn-sound J job (stepUpTo J n k t) (stepUpTo-sound k (omega arith)) n k node l
 
   pub stepTable-sound : Sound J (stepTable J n t)
   unfolding stepTable
-  stepTable-sound = stepUpTo-sound (depth J) (le-refl (depth J))
+  stepTable-sound = stepUpTo-sound (subformulaCount J) (le-refl (subformulaCount J))

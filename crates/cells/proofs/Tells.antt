@@ -7,11 +7,12 @@ use mathlib.Core.Bool.{Bool, true, false, not, cond, _&&_, _||_}
 use mathlib.Core.Logic.{⊎-elim}
 use native.Mathlib.Omega.{arith}
 use lib.Dec.{eqb}
-use borrow.Author.Tests.{eqb-true}
+use borrow.Author.Tests.{eqb-true, not-true, not-false}
 use Rattle.law.proofs.Bool.{split, clash, not-is-true, not-is-false, and-intro, and-left, and-right, and-no-left, and-no-right, or-cases}
 use Rattle.law.proofs.Bounded.{by-equal}
 use Rattle.job.specs.Job.{Job, Quantifier, dual, over, size}
 use Rattle.job.specs.Written.{IsJob}
+use Rattle.ctl.specs.Labelling.{valued}
 use Rattle.cells.specs.Fragment.{inner}
 use Rattle.cells.specs.Table.{isEmpty}
 use Rattle.cells.specs.Step.{opposite, both, next}
@@ -68,6 +69,25 @@ both-tells c d a b left right =
     (λ z. and-no-right a b (right .outside (eqb-true d 0 z)))
     (or-cases (eqb c 0) (eqb d 0) h)))
     (λ h. empty-tells (a && b)))
+
+-- A cell that is right about a set of value v is right about the truth that the set gives, and back.
+pub tells-valued : (v c : ℕ) (b : Bool) → v ≤ 1 → Tells v c b → Tells 1 c (valued v b)
+tells-valued v c b small right =
+    by-cell v (omega arith)
+    (λ e.
+    let tells : Tells 0 c b = rw e at right in
+    rw e (record { inside = λ h. not-is-true b (tells .outside h); outside = λ h. not-is-false b (tells .inside h) }))
+    (λ e. rw e (rw e at right))
+    (λ e. absurd (omega arith))
+
+pub valued-tells : (v c : ℕ) (b : Bool) → v ≤ 1 → Tells 1 c (valued v b) → Tells v c b
+valued-tells v c b small right =
+    by-cell v (omega arith)
+    (λ e.
+    let tells : Tells 1 c (not b) = rw e at right in
+    rw e (record { inside = λ h. not-false b (tells .outside h); outside = λ h. not-true b (tells .inside h) }))
+    (λ e. rw e (rw e at right))
+    (λ e. absurd (omega arith))
 
 module _ (J : Job) (job : IsJob J) (n : ℕ) (q : Quantifier) (c : ℕ → ℕ) (a : ℕ → Bool) where
   pub next-tells : ((s : ℕ) → s < size J → Tells 1 (c s) (a s)) → (s : ℕ) → Tells 1 (next J n q c s) (over (J .structure) q s a)

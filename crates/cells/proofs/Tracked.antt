@@ -11,8 +11,10 @@ use lib.Seq.{getD-set-same, getD-set-other}
 use lib.Dec.{eqb}
 use Rattle.law.proofs.Bool.{cond-true, cond-false, and-intro}
 use Rattle.law.proofs.Bounded.{by-equal}
-use Rattle.job.specs.Job.{Job, size, depth, owner}
+use Rattle.job.specs.Job.{Job, size, subformulaCount, owner}
+use Rattle.job.specs.Rule.{ruleAt, closedValue}
 use Rattle.job.specs.Written.{IsJob}
+use Rattle.job.proofs.RuleLaws.{closed-bound}
 use Rattle.cells.specs.Fragment.{border}
 use Rattle.cells.specs.Table.{Table, cell, ownerCell}
 use Rattle.cells.specs.Step.{stepTable}
@@ -76,7 +78,7 @@ module _ (J : Job) (n : ℕ) (at : ℕ → ℕ) where
   pub mark-marks :
       (t u : Table) (i : ℕ) (before after : List ℕ)
       → Mark t u i before after
-      → ((k : ℕ) → k < depth J → (at k ≡ i → ⊥) → Same J n k t u)
+      → ((k : ℕ) → k < subformulaCount J → (at k ≡ i → ⊥) → Same J n k t u)
       → Marks J n at before t after u
   mark-marks t u i before after mark others k l e =
       by-equal (at k) i
@@ -93,12 +95,12 @@ module _ (J : Job) where
       same (owner J s) s b ∙ copied n s a b o m (sym (same n s b) ∙ e)
 
 module _ (J : Job) (job : IsJob J) (t : Table) where
-  pub copyTable-owner : (s k : ℕ) → s < size J → k < depth J → ownerCell J (copyTable J t) s k ≡ ownerCell J t s k
+  pub copyTable-owner : (s k : ℕ) → s < size J → k < subformulaCount J → ownerCell J (copyTable J t) s k ≡ ownerCell J t s k
   unfolding copyTable ownerCell
   copyTable-owner s k b c = fill-cell-left J _ t (owner J s) s k b c (simp (owner-no-border J job s b))
 
   -- nothing after copying
-  pub copyTable-copied : (k : ℕ) → k < depth J → Copied J (copyTable J t) k
+  pub copyTable-copied : (k : ℕ) → k < subformulaCount J → Copied J (copyTable J t) k
   unfolding copyTable
   copyTable-copied k l n s a b o m e =
       let own = ownerCell J t s k in
@@ -109,19 +111,20 @@ module _ (J : Job) (job : IsJob J) (t : Table) where
 
 module _ (J : Job) (t : Table) where
   -- nothing of the subformula that was closed, and the others are as they were
-  pub closed-copied : smallestOpen J t < depth J → Copied J (closeTable J t) (smallestOpen J t)
+  pub closed-copied : smallestOpen J t < subformulaCount J → Copied J (closeTable J t) (smallestOpen J t)
   unfolding closeTable
   closed-copied l n s a b o m e =
       let k = smallestOpen J t in
       let empty = grown-cell-empty J t (closeTable J t) (closeTable-grown J t) n s k e in
-      let value : cell J (closeTable J t) n s k ≡ 0 =
-      fill-cell-new J _ t n s k b l empty (border-inside J n s o) ∙ cond-true (eqb k k) 0 2 (eq-eqb k k refl) in
-      absurd (omega arith)
+      let v = closedValue (ruleAt J k) in
+      let value : cell J (closeTable J t) n s k ≡ v =
+      fill-cell-new J _ t n s k b l empty (border-inside J n s o) ∙ cond-true (eqb k k) v 2 (eq-eqb k k refl) in
+      absurd (omega (arith, closed-bound (ruleAt J k)))
 
-  pub closeTable-other : (n k : ℕ) → k < depth J → (k ≡ smallestOpen J t → ⊥) → Same J n k t (closeTable J t)
+  pub closeTable-other : (n k : ℕ) → k < subformulaCount J → (k ≡ smallestOpen J t → ⊥) → Same J n k t (closeTable J t)
   unfolding closeTable
   closeTable-other n k l apart s b =
-      fill-cell-left J _ t n s k b l (cond-false (eqb k (smallestOpen J t)) 0 2 (ne-eqb k (smallestOpen J t) apart))
+      fill-cell-left J _ t n s k b l (cond-false (eqb k (smallestOpen J t)) (closedValue (ruleAt J (smallestOpen J t))) 2 (ne-eqb k (smallestOpen J t) apart))
 
 -- Right marks stay right.
 module _ (J : Job) (job : IsJob J) where
@@ -185,7 +188,7 @@ module _ (J : Job) (job : IsJob J) where
 
     pub close-tracked :
         (stale′ : List ℕ)
-        → smallestOpen J t < depth J
+        → smallestOpen J t < subformulaCount J
         → BytesAre (λ n. columnByte n (smallestOpen J t)) 1 (J .nodes) stale stale′
         → Tracked J stale′ news (closeTable J t)
     close-tracked stale′ some marked =

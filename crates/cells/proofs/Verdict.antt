@@ -3,7 +3,7 @@
 use Prim.Native.Nat.{_-_, _<_}
 use native.Mathlib.Omega.{arith}
 use borrow.Author.Tests.{ltb-true}
-use Rattle.job.specs.Job.{Job, size, depth}
+use Rattle.job.specs.Job.{Job, size, subformulaCount}
 use Rattle.job.specs.Written.{IsJob}
 use Rattle.cells.specs.Table.{Table}
 use Rattle.cells.specs.Close.{smallestOpen, someOpen}
@@ -32,7 +32,7 @@ module _ (J : Job) (job : IsJob J) where
         close =
             λ t still some sound.
             closeTable-sound J job t sound (settled-is J t (sound .formed .long) still)
-            (ltb-true (smallestOpen J t) (depth J) some);
+            (ltb-true (smallestOpen J t) (subformulaCount J) some);
       }
 
   pub finish-sound : (t : Table) → Sound J t → Sound J (finish J t .table)
@@ -42,14 +42,14 @@ module _ (J : Job) (job : IsJob J) where
   pub first-state : 0 < size J
   first-state = job .states .above
 
-  whole : depth J - 1 < depth J
+  whole : subformulaCount J - 1 < subformulaCount J
   whole = omega (arith, job .subformulas .above)
 
   pub verdict-filled : (t : Table) → Formed J t → Filled (verdict J (finish J t .table))
   unfolding verdict
-  verdict-filled t formed = finish-complete J t job formed 0 (depth J - 1) first-state whole
+  verdict-filled t formed = finish-complete J t job formed 0 (subformulaCount J - 1) first-state whole
 
   module _ (t : Table) (sound : Sound J t) where
-    pub verdict-tells : Tells 1 (verdict J (finish J t .table)) (truth J (depth J - 1) 0)
+    pub verdict-tells : Tells 1 (verdict J (finish J t .table)) (truth J (subformulaCount J - 1) 0)
     unfolding verdict
-    verdict-tells = ownerCell-tells J job (finish J t .table) (finish-sound t sound) 0 (depth J - 1) first-state whole
+    verdict-tells = ownerCell-tells J job (finish J t .table) (finish-sound t sound) 0 (subformulaCount J - 1) first-state whole

@@ -2,20 +2,18 @@
 -- answer and the whole table afterwards: the functions that the contracts cite and that demand 3 is about. Assumes nothing.
 use Prim.Native.Nat.{ℕ}
 use mathlib.Core.Bool.{cond}
-use mathlib.Core.List.{List, [], _∷_, _++_, map}
-use mathlib.Core.Option.{Option}
-use mathlib.Core.Option as opt
+use mathlib.Core.List.{List, [], _∷_, _++_}
 use lib.Dec.{eqb}
-use Rattle.law.specs.Lists.{firstNo}
-use Rattle.job.specs.Layout.{Text}
+use Rattle.text.specs.Field.{Text}
 use Rattle.job.specs.Job.{Job, decode}
-use Rattle.job.specs.Answer.{Answer, accepted, refused}
-use Rattle.job.specs.Questions as text
+use Rattle.job.specs.Answer.{Answer}
+use Rattle.job.specs.Question.{Question, answered, afterwards}
+use Rattle.job.specs.Questions.{textQuestions}
 use Rattle.cells.specs.Table.{Table, cell, ownerCell, filled, freshTable}
 use Rattle.cells.specs.Step.{stepTable}
 use Rattle.cells.specs.Close.{acceptTable, smallestOpen, closeTable}
 use Rattle.cells.specs.Finish as finishing
-use Rattle.cells.specs.Questions.{Question, ofText, tableSize, tableCells, node, nodeOr255, numbers, temporal, ownerFilled, truthValue, border, agrees, inFragment, settled, someOpen, numberOf, lineOf, passes}
+use Rattle.cells.specs.Questions.{tableSize, tableCells, nodeBelow, nodeOr255, numbersBelow, temporalNamed, ownerFilled, truthValue, stateAtBorder, cellAgrees, stateInFragment, tableSettled, someOwnerEmpty}
 
 -- A call with the numbers passed: nodes, states, subformulas, values, in document 01's order.
 pub data Call : Type 0 where
@@ -32,23 +30,24 @@ unfoldable pub nodeRead : ℕ → ℕ
 nodeRead n = cond (eqb n 255) 0 n
 
 -- "Fresh 1 to 9; step 1 to 11; offer 1 to 10, 12 to 14; accept 1 to 13, 15 to 17; look 1 to 12, 18; close 1 to 10, 19, 20;
--- finish 1 to 10."
-unfoldable pub ownQuestions : Call → List Question
-ownQuestions fresh = tableSize ∷ []
-ownQuestions (step n) = tableSize ∷ tableCells ∷ node n ∷ []
-ownQuestions (offer s k) = tableSize ∷ tableCells ∷ numbers s k ∷ temporal k ∷ ownerFilled s k ∷ []
-ownQuestions (accept n s k v) =
-    tableSize ∷ tableCells ∷ node n ∷ numbers s k ∷ temporal k ∷ truthValue v ∷ border n s ∷ agrees n s k v ∷ []
-ownQuestions (look n s k) = tableSize ∷ tableCells ∷ nodeOr255 n ∷ numbers s k ∷ inFragment (nodeRead n) s ∷ []
-ownQuestions close = tableSize ∷ tableCells ∷ settled ∷ someOpen ∷ []
-ownQuestions finish = tableSize ∷ tableCells ∷ []
+-- finish 1 to 10": those behind 8.
+unfoldable pub ownQuestions : Call → Job → Table → List Question
+ownQuestions fresh J t = tableSize J t ∷ []
+ownQuestions (step n) J t = tableSize J t ∷ tableCells J t ∷ nodeBelow J n ∷ []
+ownQuestions (offer s k) J t =
+    tableSize J t ∷ tableCells J t ∷ numbersBelow J s k ∷ temporalNamed J k ∷ ownerFilled J t s k ∷ []
+ownQuestions (accept n s k v) J t =
+    tableSize J t ∷ tableCells J t ∷ nodeBelow J n ∷ numbersBelow J s k ∷ temporalNamed J k ∷ truthValue v ∷ stateAtBorder J n s
+    ∷ cellAgrees J t n s k v
+    ∷ []
+ownQuestions (look n s k) J t =
+    tableSize J t ∷ tableCells J t ∷ nodeOr255 J n ∷ numbersBelow J s k ∷ stateInFragment J (nodeRead n) s ∷ []
+ownQuestions close J t = tableSize J t ∷ tableCells J t ∷ tableSettled J t ∷ someOwnerEmpty J t ∷ []
+ownQuestions finish J t = tableSize J t ∷ tableCells J t ∷ []
 
 -- "A call .. that takes a job puts 1 to 8 before questions of its own."
-unfoldable pub questions : Call → List Question
-questions c = map ofText text.questions ++ ownQuestions c
-
-unfoldable pub refusal : Call → Text → Table → Option Question
-refusal c x t = firstNo (passes x t) (questions c)
+unfoldable pub questions : Call → Text → Table → List Question
+questions c x t = textQuestions x ++ ownQuestions c (decode x) t
 
 -- How many numbers an answer has besides number and line; a refusal has 0 in each.
 unfoldable pub width : Call → ℕ
@@ -82,17 +81,9 @@ left (look n s k) J t = t
 left close J t = closeTable J t
 left finish J t = finishing.finish J t .table
 
-unfoldable pub answerUnless : Option Question → Call → Text → Table → Answer
-answerUnless opt.none c x t = accepted (told c (decode x) t)
-answerUnless (opt.some q) c x t = refused (numberOf q) (lineOf x q) (width c)
-
--- "A refusal: the table and any other lent bytes stay."
-unfoldable pub afterUnless : Option Question → Call → Text → Table → Table
-afterUnless opt.none c x t = left c (decode x) t
-afterUnless (opt.some q) c x t = t
-
 unfoldable pub answer : Call → Text → Table → Answer
-answer c x t = answerUnless (refusal c x t) c x t
+answer c x t = answered (questions c x t) (width c) (told c (decode x) t)
 
+-- "A refusal ..: the table and any other lent bytes stay."
 unfoldable pub after : Call → Text → Table → Table
-after c x t = afterUnless (refusal c x t) c x t
+after c x t = afterwards (questions c x t) t (left c (decode x) t)

@@ -4,14 +4,14 @@ use mathlib.Core.Bool.{Bool, cond, not, _&&_}
 use lib.ListN.{length, getD}
 use lib.Dec.{eqb, ltb}
 use Rattle.law.specs.Bounded.{first, all, any}
-use Rattle.job.specs.Job.{Job, size, depth, subformula}
-use Rattle.job.specs.Formula.{temporal}
+use Rattle.job.specs.Job.{Job, size, subformulaCount}
+use Rattle.job.specs.Rule.{ruleAt, temporal, closedValue}
 use Rattle.cells.specs.Fragment.{border}
 use Rattle.cells.specs.Table.{Table, nodeOf, stateOf, subformulaOf, ownerCell, isEmpty, fill, filled}
 use Rattle.cells.specs.Step.{stepTable}
 
 unfoldable pub isTemporal : Job → ℕ → Bool
-isTemporal J k = temporal (subformula (J .formula) k)
+isTemporal J k = temporal (ruleAt J k)
 
 -- "Accept names a node and a message and fills that node's cell if empty."
 unfoldable pub acceptTable : Job → ℕ → ℕ → ℕ → ℕ → Table → Table
@@ -44,11 +44,11 @@ open? J t k = any (λ s. isEmpty (ownerCell J t s k)) (size J)
 
 -- "the smallest number k for which some owner's cell is empty", K where there is none
 unfoldable pub smallestOpen : Job → Table → ℕ
-smallestOpen J t = first (open? J t) (depth J)
+smallestOpen J t = first (open? J t) (subformulaCount J)
 
 unfoldable pub someOpen : Job → Table → Bool
-someOpen J t = ltb (smallestOpen J t) (depth J)
+someOpen J t = ltb (smallestOpen J t) (subformulaCount J)
 
--- "makes every empty cell of k in every fragment 0"
+-- "makes every empty cell of k in every fragment 0": the value that its sets do not give, which is 0 for both untils
 unfoldable pub closeTable : Job → Table → Table
-closeTable J t = let k = smallestOpen J t in fill J (λ m s j. cond (eqb j k) 0 2) t
+closeTable J t = let k = smallestOpen J t in fill J (λ m s j. cond (eqb j k) (closedValue (ruleAt J k)) 2) t

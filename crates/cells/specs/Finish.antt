@@ -3,7 +3,7 @@ use Prim.Native.Nat.{ℕ, zero, suc, _+_, _-_}
 use mathlib.Core.Bool.{cond, _&&_}
 use mathlib.Core.Path.{_≡_}
 use lib.Dec.{eqb}
-use Rattle.job.specs.Job.{Job, depth}
+use Rattle.job.specs.Job.{Job, subformulaCount}
 use Rattle.cells.specs.Table.{Table, ownerCell, filled, emptyCells}
 use Rattle.cells.specs.Step.{stepTable}
 use Rattle.cells.specs.Close.{copyTable, settled, someOpen, closeTable}
@@ -68,4 +68,4 @@ finish J t = roundsFrom J (emptyCells J t) t
 
 -- "the owner's cell of state 0 and subformula K − 1"
 unfoldable pub verdict : Job → Table → ℕ
-verdict J t = ownerCell J t 0 (depth J - 1)
+verdict J t = ownerCell J t 0 (subformulaCount J - 1)

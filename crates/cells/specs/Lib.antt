@@ -8,6 +8,5 @@ pub mod Rest
 pub mod Finish
 pub mod Questions
 pub mod Calls
-pub mod Told
 pub mod Cases
 pub mod RuledOut

@@ -1,87 +1,62 @@
--- Document 01, "The questions put to a call", 9 to 20, each with the numbers that it is asked of. Assumes nothing.
+-- Document 01, "The questions put to a call", 9 to 20, each of the job, the table and the numbers passed. They are about no line.
+-- Assumes nothing.
 use Prim.Native.Nat.{ℕ}
-use mathlib.Core.Bool.{Bool, not, _&&_, _||_}
+use mathlib.Core.Bool.{not, _&&_, _||_}
 use lib.ListN.{length}
 use lib.Dec.{ltb, leb, eqb}
-use Rattle.job.specs.Layout.{Text}
-use Rattle.job.specs.Job.{decode, size, depth}
-use Rattle.job.specs.Questions as text
-use Rattle.cells.specs.Fragment as fragment
+use Rattle.job.specs.Job.{Job, size, subformulaCount}
+use Rattle.job.specs.Question.{Question, ofCall}
+use Rattle.cells.specs.Fragment.{inFragment, border}
 use Rattle.cells.specs.Table.{Table, tableLength, cell, ownerCell, isEmpty, cellsRight}
-use Rattle.cells.specs.Close as close
+use Rattle.cells.specs.Close.{isTemporal, settled, someOpen}
 
-pub data Question : Type 0 where
-  -- 1 to 8
-  ofText : text.Question → Question
-  -- 9, 10
-  tableSize : Question
-  tableCells : Question
-  -- 11: of a node; of a node or 255
-  node : ℕ → Question
-  nodeOr255 : ℕ → Question
-  -- 12: of a state and a subformula
-  numbers : ℕ → ℕ → Question
-  -- 13: of a subformula
-  temporal : ℕ → Question
-  -- 14: of a state and a subformula
-  ownerFilled : ℕ → ℕ → Question
-  -- 15: of a message's value
-  truthValue : ℕ → Question
-  -- 16: of a node and a state
-  border : ℕ → ℕ → Question
-  -- 17: of a node, a state, a subformula and a value
-  agrees : ℕ → ℕ → ℕ → ℕ → Question
-  -- 18: of a node and a state
-  inFragment : ℕ → ℕ → Question
-  -- 19, 20
-  settled : Question
-  someOpen : Question
+-- "Has the table N × S × K bytes? No: 9."
+unfoldable pub tableSize : Job → Table → Question
+tableSize J t = ofCall 9 (eqb (length t) (tableLength J))
 
-unfoldable pub numberOf : Question → ℕ
-numberOf (ofText q) = text.numberOf q
-numberOf tableSize = 9
-numberOf tableCells = 10
-numberOf (node n) = 11
-numberOf (nodeOr255 n) = 11
-numberOf (numbers s k) = 12
-numberOf (temporal k) = 13
-numberOf (ownerFilled s k) = 14
-numberOf (truthValue v) = 15
-numberOf (border n s) = 16
-numberOf (agrees n s k v) = 17
-numberOf (inFragment n s) = 18
-numberOf settled = 19
-numberOf someOpen = 20
+-- "Is each byte 0 to 2, and 2 outside fragments? No: 10."
+unfoldable pub tableCells : Job → Table → Question
+tableCells J t = ofCall 10 (cellsRight J t)
 
--- "The line for 1 to 8 (else 0)."
-unfoldable pub lineOf : Text → Question → ℕ
-lineOf x (ofText q) = text.noLine (text.asked q x)
-lineOf x tableSize = 0
-lineOf x tableCells = 0
-lineOf x (node n) = 0
-lineOf x (nodeOr255 n) = 0
-lineOf x (numbers s k) = 0
-lineOf x (temporal k) = 0
-lineOf x (ownerFilled s k) = 0
-lineOf x (truthValue v) = 0
-lineOf x (border n s) = 0
-lineOf x (agrees n s k v) = 0
-lineOf x (inFragment n s) = 0
-lineOf x settled = 0
-lineOf x someOpen = 0
+-- "Is the node below N (look: or 255)? No: 11."
+unfoldable pub nodeBelow : Job → ℕ → Question
+nodeBelow J n = ofCall 11 (ltb n (J .nodes))
 
-unfoldable pub passes : Text → Table → Question → Bool
-passes x t (ofText q) = text.passes x q
-passes x t tableSize = eqb (length t) (tableLength (decode x))
-passes x t tableCells = cellsRight (decode x) t
-passes x t (node n) = ltb n (decode x .nodes)
-passes x t (nodeOr255 n) = ltb n (decode x .nodes) || eqb n 255
-passes x t (numbers s k) = ltb s (size (decode x)) && ltb k (depth (decode x))
-passes x t (temporal k) = close.isTemporal (decode x) k
-passes x t (ownerFilled s k) = not (isEmpty (ownerCell (decode x) t s k))
-passes x t (truthValue v) = leb v 1
-passes x t (border n s) = fragment.border (decode x) n s
-passes x t (agrees n s k v) = isEmpty (cell (decode x) t n s k) || eqb (cell (decode x) t n s k) v
-passes x t (inFragment n s) = fragment.inFragment (decode x) n s
-passes x t settled = close.settled (decode x) t
-passes x t someOpen = close.someOpen (decode x) t
+unfoldable pub nodeOr255 : Job → ℕ → Question
+nodeOr255 J n = ofCall 11 (ltb n (J .nodes) || eqb n 255)
+
+-- "Is the state below S and the subformula below K? No: 12."
+unfoldable pub numbersBelow : Job → ℕ → ℕ → Question
+numbersBelow J s k = ofCall 12 (ltb s (size J) && ltb k (subformulaCount J))
+
+-- "Is the subformula temporal? No: 13."
+unfoldable pub temporalNamed : Job → ℕ → Question
+temporalNamed J k = ofCall 13 (isTemporal J k)
+
+-- "Is the owner's cell filled? No: 14."
+unfoldable pub ownerFilled : Job → Table → ℕ → ℕ → Question
+ownerFilled J t s k = ofCall 14 (not (isEmpty (ownerCell J t s k)))
+
+-- "Is the message's value 0 or 1? No: 15."
+unfoldable pub truthValue : ℕ → Question
+truthValue v = ofCall 15 (leb v 1)
+
+-- "Is the state a border state of the node's fragment? No: 16."
+unfoldable pub stateAtBorder : Job → ℕ → ℕ → Question
+stateAtBorder J n s = ofCall 16 (border J n s)
+
+-- "Is the cell empty or equal to the value? No: 17."
+unfoldable pub cellAgrees : Job → Table → ℕ → ℕ → ℕ → ℕ → Question
+cellAgrees J t n s k v = ofCall 17 (isEmpty (cell J t n s k) || eqb (cell J t n s k) v)
+
+-- "Is the state in the node's fragment? No: 18."
+unfoldable pub stateInFragment : Job → ℕ → ℕ → Question
+stateInFragment J n s = ofCall 18 (inFragment J n s)
+
+-- "Is the table settled? No: 19."
+unfoldable pub tableSettled : Job → Table → Question
+tableSettled J t = ofCall 19 (settled J t)
+
+-- "Is some owner's cell empty? No: 20."
+unfoldable pub someOwnerEmpty : Job → Table → Question
+someOwnerEmpty J t = ofCall 20 (someOpen J t)

@@ -4,13 +4,13 @@
 use Prim.Native.Nat.{ℕ, _+_, _*_, _<_}
 use mathlib.Core.Path.{_≡_}
 use mathlib.Core.Bool.{Bool, true, false, not}
-use mathlib.Core.List.{List, [], _∷_}
+use mathlib.Core.List.{List, _∷_}
 use lib.ListN.{length, getD}
 use lib.Dec.{eqb}
 use Rattle.law.specs.Lists.{some}
-use Rattle.job.specs.Job.{Job, size, depth, subformula}
-use Rattle.job.specs.declared.subformula.Subformula.{Subformula}
-use Rattle.job.specs.declared.subformula.Subformula.the-variants.{Atom, Not, And, Ax, Ex, Au, Eu}
+use Rattle.job.specs.Job.{Job, size, subformulaCount}
+use Rattle.job.specs.Rule.{ruleAt, operands}
+use Rattle.job.specs.declared.rule.Rule.{Rule}
 use Rattle.cells.specs.Fragment.{border}
 use Rattle.cells.specs.Table.{Table, cell, ownerCell}
 use Rattle.cells.specs.Step.{stepColumn}
@@ -23,27 +23,18 @@ columnByte n k = n * 32 + k
 unfoldable pub isStale : List ℕ → ℕ → ℕ → Bool
 isStale stale n k = not (eqb (getD stale (columnByte n k) 0) 0)
 
-unfoldable pub operands : Subformula → List ℕ
-operands (Atom j) = []
-operands (Not a) = a ∷ []
-operands (And a b) = a ∷ b ∷ []
-operands (Ax a) = a ∷ []
-operands (Ex a) = a ∷ []
-operands (Au a b) = a ∷ b ∷ []
-operands (Eu a b) = a ∷ b ∷ []
+-- The subformulas whose cells the step of a node reads for column k, by its rule.
+unfoldable pub reads : ℕ → Rule → List ℕ
+reads k r = k ∷ operands r
 
--- The subformulas whose cells the step of a node reads for column k.
-unfoldable pub reads : ℕ → Subformula → List ℕ
-reads k f = k ∷ operands f
-
--- Something stale bears on column k of node n, whose subformula is f.
-unfoldable pub bears : List ℕ → ℕ → ℕ → Subformula → Bool
-bears stale n k f = some (isStale stale n) (reads k f)
+-- Something stale bears on column k of node n, by its rule.
+unfoldable pub bears : List ℕ → ℕ → ℕ → Rule → Bool
+bears stale n k r = some (isStale stale n) (reads k r)
 
 -- The step of node n would fill nothing in a column on which nothing stale bears.
 abbrev pub Rested : Job → ℕ → List ℕ → Table → Type 0
 Rested J n stale t =
-    (k : ℕ) → k < depth J → bears stale n k (subformula (J .formula) k) ≡ false → stepColumn J n k t ≡ t
+    (k : ℕ) → k < subformulaCount J → bears stale n k (ruleAt J k) ≡ false → stepColumn J n k t ≡ t
 
 -- Copying would fill nothing of subformula k: none of its temporal cells is filled at its owner and empty at a border state.
 abbrev pub Copied : Job → Table → ℕ → Type 0
@@ -58,7 +49,7 @@ Copied J t k =
 
 -- Copying would fill nothing of a subformula without news.
 abbrev pub Exchanged : Job → List ℕ → Table → Type 0
-Exchanged J news t = (k : ℕ) → k < depth J → getD news k 0 ≡ 0 → Copied J t k
+Exchanged J news t = (k : ℕ) → k < subformulaCount J → getD news k 0 ≡ 0 → Copied J t k
 
 -- Both marks are right about the table.
 pub record Tracked (J : Job) (stale news : List ℕ) (t : Table) : Type 0 where
@@ -74,7 +65,7 @@ Same J n k t u = (s : ℕ) → s < size J → cell J u n s k ≡ cell J t n s k
 -- Between two tables the columns of node n that differ were marked, column k at byte `at k`: a column without a mark had none before.
 abbrev pub Marks : Job → ℕ → (ℕ → ℕ) → List ℕ → Table → List ℕ → Table → Type 0
 Marks J n at before t after u =
-    (k : ℕ) → k < depth J → getD after (at k) 0 ≡ 0 → (getD before (at k) 0 ≡ 0) × Same J n k t u
+    (k : ℕ) → k < subformulaCount J → getD after (at k) 0 ≡ 0 → (getD before (at k) 0 ≡ 0) × Same J n k t u
 
 -- One byte is marked if the tables differ, the others are as they were.
 pub record Mark (t u : Table) (i : ℕ) (before after : List ℕ) : Type 0 where

@@ -20,6 +20,9 @@ pub record SetRule : Type 0 where
   pub grow : ℕ → ℕ
   pub value : ℕ
 
+abbrev pub setRule : Quantifier → (ℕ → ℕ) → (ℕ → ℕ) → ℕ → SetRule
+setRule q start grow v = record { quantifier = q; start = start; grow = grow; value = v }
+
 -- The sets of a rule at node n, over the node's own cells of the subformula, by state.
 module _ (J : Job) (n : ℕ) (own : ℕ → ℕ) (R : SetRule) where
   -- s joins the smallest set: it has the value already; or it is empty, not border, and starts, or grows with its successors

@@ -5,12 +5,13 @@ use mathlib.Core.List.{List}
 use lib.ListN.{getD}
 use lib.Dec.{eqb}
 use Rattle.law.specs.Lists.{tab}
-use Rattle.job.specs.Job.{Job, Quantifier, forAll, exists, dual, over, size, depth, atom, subformula}
-use Rattle.job.specs.declared.subformula.Subformula.{Subformula}
-use Rattle.job.specs.declared.subformula.Subformula.the-variants.{Atom, Not, And, Ax, Ex, Au, Eu}
+use Rattle.job.specs.Job.{Job, Quantifier, dual, over, size, subformulaCount, atom}
+use Rattle.job.specs.Rule.{ruleAt, quantifier}
+use Rattle.job.specs.declared.rule.Rule.{Rule}
+use Rattle.job.specs.declared.rule.Rule.the-variants.{Atom, Not, And, Next, Sets}
 use Rattle.cells.specs.Fragment.{inner}
 use Rattle.cells.specs.Table.{Table, cell, isEmpty, fill}
-use Rattle.cells.specs.SetRule.{SetRule, bySets}
+use Rattle.cells.specs.SetRule.{setRule, bySets}
 
 -- "Not: the other value of a filled cell."
 unfoldable pub opposite : ℕ → ℕ
@@ -28,23 +29,18 @@ next J n q a s =
     (cond (over (J .structure) q s (λ u. eqb (a u) 1)) 1 (cond (over (J .structure) (dual q) s (λ u. eqb (a u) 0)) 0 2))
     2
 
-abbrev pub untilRule : Quantifier → (ℕ → ℕ) → (ℕ → ℕ) → SetRule
-untilRule q a b = record { quantifier = q; start = b; grow = a; value = 1 }
-
--- What the step of node n has for the cells of subformula k, by state, given the node's cells of a subformula by state.
-unfoldable pub column : Job → ℕ → (ℕ → ℕ → ℕ) → ℕ → Subformula → List ℕ
+-- What the step of node n has for the cells of subformula k by its rule, by state, given the node's cells of a subformula by state.
+unfoldable pub column : Job → ℕ → (ℕ → ℕ → ℕ) → ℕ → Rule → List ℕ
 column J n at k (Atom j) = tab (λ s. cond (atom (J .structure) j s) 1 0) (size J)
 column J n at k (Not a) = tab (λ s. opposite (at a s)) (size J)
 column J n at k (And a b) = tab (λ s. both (at a s) (at b s)) (size J)
-column J n at k (Ax a) = tab (next J n forAll (at a)) (size J)
-column J n at k (Ex a) = tab (next J n exists (at a)) (size J)
-column J n at k (Au a b) = bySets J n (at k) (untilRule forAll (at a) (at b))
-column J n at k (Eu a b) = bySets J n (at k) (untilRule exists (at a) (at b))
+column J n at k (Next all a) = tab (next J n (quantifier all) (at a)) (size J)
+column J n at k (Sets all start grow v) = bySets J n (at k) (setRule (quantifier all) (at start) (at grow) v)
 
 -- The empty cells of node n and subformula k take their values.
 unfoldable pub stepColumn : Job → ℕ → ℕ → Table → Table
 stepColumn J n k t =
-    let values = column J n (λ j s. cell J t n s j) k (subformula (J .formula) k) in
+    let values = column J n (λ j s. cell J t n s j) k (ruleAt J k) in
     fill J (λ m s j. cond (eqb m n && eqb j k) (getD values s 2) 2) t
 
 unfoldable pub stepUpTo : Job → ℕ → ℕ → Table → Table
@@ -52,4 +48,4 @@ stepUpTo J n zero t = t
 stepUpTo J n (suc k) t = stepColumn J n k (stepUpTo J n k t)
 
 unfoldable pub stepTable : Job → ℕ → Table → Table
-stepTable J n t = stepUpTo J n (depth J) t
+stepTable J n t = stepUpTo J n (subformulaCount J) t

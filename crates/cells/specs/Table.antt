@@ -9,27 +9,27 @@ use lib.ListN.{length, getD, replicate}
 use lib.Dec.{leb, eqb}
 use Rattle.law.specs.Bounded.{all, count}
 use Rattle.law.specs.Lists.{tab}
-use Rattle.job.specs.Job.{Job, size, depth, owner}
+use Rattle.job.specs.Job.{Job, size, subformulaCount, owner}
 use Rattle.cells.specs.Fragment.{inFragment}
 
 abbrev pub Table : Type 0
 Table = List ℕ
 
 unfoldable pub tableLength : Job → ℕ
-tableLength J = J .nodes * size J * depth J
+tableLength J = J .nodes * size J * subformulaCount J
 
 -- The byte of a cell, and back: the node, the state and the subformula of byte i.
 unfoldable pub index : Job → ℕ → ℕ → ℕ → ℕ
-index J n s k = (n * size J + s) * depth J + k
+index J n s k = (n * size J + s) * subformulaCount J + k
 
 unfoldable pub nodeOf : Job → ℕ → ℕ
-nodeOf J i = i / depth J / size J
+nodeOf J i = i / subformulaCount J / size J
 
 unfoldable pub stateOf : Job → ℕ → ℕ
-stateOf J i = i / depth J % size J
+stateOf J i = i / subformulaCount J % size J
 
 unfoldable pub subformulaOf : Job → ℕ → ℕ
-subformulaOf J i = i % depth J
+subformulaOf J i = i % subformulaCount J
 
 unfoldable pub cell : Job → Table → ℕ → ℕ → ℕ → ℕ
 cell J t n s k = getD t (index J n s k) 0

@@ -7,11 +7,13 @@ use mathlib.Core.List.{List}
 use native.Mathlib.Nat.{not-suc-le-zero, le-refl}
 use native.Mathlib.Omega.{arith}
 use lib.ListN.{length}
-use Rattle.job.specs.Job.{Structure, forAll, exists, over, subformula}
+use Rattle.job.specs.Job.{Structure, over, subformula}
+use Rattle.job.specs.Rule.{ruleOf, InRange, quantifier}
 use Rattle.job.specs.Written.{Operands}
 use Rattle.job.specs.declared.subformula.Subformula.{Subformula}
-use Rattle.job.specs.declared.subformula.Subformula.the-variants.{Atom, Not, And, Ax, Ex, Au, Eu}
-use Rattle.ctl.specs.Labelling.{reached, label, labelling, sat}
+use Rattle.job.specs.declared.rule.Rule.{Rule}
+use Rattle.job.specs.declared.rule.Rule.the-variants.{Atom, Not, And, Next, Sets}
+use Rattle.ctl.specs.Labelling.{reached, valued, label, labelling, sat}
 
 -- Operands have smaller numbers: the field `operands` of a job.
 abbrev pub Smaller : List Subformula → Type 0
@@ -21,16 +23,16 @@ Smaller f = (k : ℕ) → k < length f → Operands k (subformula f k)
 pub label-same :
     (M : Structure) (p q : ℕ → ℕ → Bool) (k : ℕ)
     → ((a : ℕ) → a < k → p a ≡ q a)
-    → (g : Subformula) → Operands k g
-    → label M p g ≡ label M q g
-unfolding label Operands
+    → (r : Rule)
+    → InRange k r
+    → label M p r ≡ label M q r
+unfolding label InRange
 label-same M p q k same (Atom j) o = refl
 label-same M p q k same (Not a) o = ap (λ x s. not (x s)) (same a o)
 label-same M p q k same (And a b) o = ap₂ (λ x y s. x s && y s) (same a (o .0)) (same b (o .1))
-label-same M p q k same (Ax a) o = ap (λ x s. over M forAll s x) (same a o)
-label-same M p q k same (Ex a) o = ap (λ x s. over M exists s x) (same a o)
-label-same M p q k same (Au a b) o = ap₂ (λ x y. reached M forAll y x) (same a (o .0)) (same b (o .1))
-label-same M p q k same (Eu a b) o = ap₂ (λ x y. reached M exists y x) (same a (o .0)) (same b (o .1))
+label-same M p q k same (Next all a) o = ap (λ x s. over M (quantifier all) s x) (same a o)
+label-same M p q k same (Sets all b a v) o =
+    ap₂ (λ x y s. valued v (reached M (quantifier all) x y s)) (same b (o .0)) (same a (o .1))
 
 module _ (M : Structure) (f : List Subformula) (smaller : Smaller f) where
   -- Any two fuels above k label k alike, by induction on both: the operands' fuels are above the operands.
@@ -41,13 +43,13 @@ module _ (M : Structure) (f : List Subformula) (smaller : Smaller f) where
   labelling-same (suc n) (suc m) k h g l =
       label-same M (labelling M f n) (labelling M f m) k
       (λ a s. labelling-same n m a (omega arith) (omega arith) (omega arith))
-      (subformula f k) (smaller k l)
+      (ruleOf (subformula f k)) (smaller k l)
 
   -- The fuel that `sat` has is one of them.
-  pub sat-label : (k : ℕ) → k < length f → (s : ℕ) → sat M f k s ≡ label M (sat M f) (subformula f k) s
+  pub sat-label : (k : ℕ) → k < length f → (s : ℕ) → sat M f k s ≡ label M (sat M f) (ruleOf (subformula f k)) s
   unfolding sat labelling
   sat-label k l s =
       ap (λ x. x s)
       (label-same M (labelling M f k) (sat M f) k
       (λ a h. labelling-same k (suc a) a h (le-refl (suc a)) (omega arith))
-      (subformula f k) (smaller k l))
+      (ruleOf (subformula f k)) (smaller k l))

@@ -4,3 +4,4 @@ pub mod Reached
 pub mod Walks
 pub mod Untils
 pub mod Truth
+pub mod Renaming

@@ -1,21 +1,23 @@
--- Truth by walks is what the labelling computes: at each state of a total structure a subformula holds exactly where it is labelled
--- true. One line for each kind, then by the fuel that both have. Assumes nothing.
+-- What a kind means, at the two places that need it kind by kind: its line with renamed operands means the same, and the label that its
+-- rule gives decides it. So truth by walks is what the labelling computes: at each state of a total structure a subformula holds exactly
+-- where it is labelled true, by the fuel that both have. Assumes nothing.
 use Prim.Native.Nat.{ℕ, zero, suc, _<_}
-use mathlib.Core.Path.{_≡_, sym, _∙_}
+use mathlib.Core.Path.{_≡_, sym}
 use mathlib.Core.Bool.{Bool, true, not, true≢false}
 use mathlib.Core.List.{List}
 use mathlib.Core.Logic.{_↔_}
-use lib.ListN.{length}
 use borrow.Author.Tests.{not-true}
 use Rattle.law.proofs.Bool.{split, clash, not-is-true, and-intro, and-left, and-right}
 use Rattle.job.specs.Job.{Structure, forAll, exists, subformula}
+use Rattle.job.specs.Formula.{renamed}
+use Rattle.job.specs.Rule.{ruleOf, InRange}
+use Rattle.job.specs.Written.{Operands}
 use Rattle.job.specs.declared.subformula.Subformula.{Subformula}
 use Rattle.job.specs.declared.subformula.Subformula.the-variants.{Atom, Not, And, Ax, Ex, Au, Eu}
 use Rattle.job.proofs.Successors.{over-all, over-some}
-use Rattle.ctl.specs.Truth.{Predicate, Edge, meaning, within, Holds}
+use Rattle.ctl.specs.Truth.{Predicate, Edge, Walk, Until, meaning, within, Holds}
 use Rattle.ctl.specs.Labelling.{label, labelling, sat}
 use Rattle.ctl.proofs.Total.{State, Total}
-use Rattle.ctl.proofs.Labelling.{Smaller, sat-label}
 use Rattle.ctl.proofs.Untils.{OnWalks, Decides, walks-reached}
 
 -- a Bool that decides A decides its opposite
@@ -25,10 +27,48 @@ not-decides A x d = (
   (λ e h. clash x (d .0 h) (not-true x e)),
 )
 
+-- A line whose operands are renamed says the same, where what the operands say is the same: kind by kind.
+module _ (M : Structure) (A B A′ B′ : Predicate) (a : (s : ℕ) → A s → A′ s) (b : (s : ℕ) → B s → B′ s) where
+  until-map : (s : ℕ) (w : Walk M s) → Until M A B s w → Until M A′ B′ s w
+  until-map s w u =
+      record { place = u .place; reached = b (w .at (u .place)) (u .reached); before = λ i h. a (w .at i) (u .before i h) }
+
+-- Predicates P of subformulas below k and Q of their new names below j agree along ρ.
+abbrev pub Along : (ℕ → ℕ) → ℕ → ℕ → (ℕ → Predicate) → (ℕ → Predicate) → Type 0
+Along ρ k j P Q = (a : ℕ) → a < k → ρ a < j → (s : ℕ) → P a s ↔ Q (ρ a) s
+
+module _ (M : Structure) (ρ : ℕ → ℕ) (k j : ℕ) (P Q : ℕ → Predicate) (same : Along ρ k j P Q) where
+  on-walks :
+      (a b : ℕ) → a < k → b < k → ρ a < j → ρ b < j → (s : ℕ) (w : Walk M s) → Until M (P a) (P b) s w ↔ Until M (Q (ρ a)) (Q (ρ b)) s w
+  on-walks a b l r l′ r′ s w = (
+    until-map M (P a) (P b) (Q (ρ a)) (Q (ρ b)) (λ t. same a l l′ t .0) (λ t. same b r r′ t .0) s w,
+    until-map M (Q (ρ a)) (Q (ρ b)) (P a) (P b) (λ t. same a l l′ t .1) (λ t. same b r r′ t .1) s w,
+  )
+
+  pub meaning-renamed :
+      (g : Subformula) → Operands k g → Operands j (renamed ρ g) → (s : ℕ) → meaning M P g s ↔ meaning M Q (renamed ρ g) s
+  unfolding meaning renamed InRange
+  meaning-renamed (Atom i) o p s = (λ h. h, λ h. h)
+  meaning-renamed (Not a) o p s = (λ h x. h (same a o p s .1 x), λ h x. h (same a o p s .0 x))
+  meaning-renamed (And a b) (o, q) (p, r) s = (
+    (λ (x, y). (same a o p s .0 x, same b q r s .0 y)),
+    (λ (x, y). (same a o p s .1 x, same b q r s .1 y)),
+  )
+  meaning-renamed (Ax a) o p s = (λ h t e. same a o p t .0 (h t e), λ h t e. same a o p t .1 (h t e))
+  meaning-renamed (Ex a) o p s = (λ (t, e, x). (t, e, same a o p t .0 x), λ (t, e, x). (t, e, same a o p t .1 x))
+  meaning-renamed (Au a b) (q, o, v) (r, p, v′) s = (
+    (λ h w. on-walks a b o q p r s w .0 (h w)),
+    (λ h w. on-walks a b o q p r s w .1 (h w)),
+  )
+  meaning-renamed (Eu a b) (q, o, v) (r, p, v′) s = (
+    (λ (w, u). (w, on-walks a b o q p r s w .0 u)),
+    (λ (w, u). (w, on-walks a b o q p r s w .1 u)),
+  )
+
 module _ (M : Structure) (total : Total M) where
   -- Where Bools decide what the operands say, the label decides what the subformula says.
   module _ (holds : ℕ → Predicate) (sat : ℕ → ℕ → Bool) (decides : (a : ℕ) → Decides M (holds a) (sat a)) where
-    meaning-label : (g : Subformula) → Decides M (meaning M holds g) (label M sat g)
+    meaning-label : (g : Subformula) → Decides M (meaning M holds g) (label M sat (ruleOf g))
     unfolding meaning label Edge OnWalks
     meaning-label (Atom j) s l = (λ h. h, λ h. h)
     meaning-label (Not a) s l = not-decides (holds a s) (sat a s) (decides a s l)
@@ -56,18 +96,3 @@ module _ (M : Structure) (total : Total M) where
   pub holds-sat : (f : List Subformula) (k s : ℕ) → State M s → Holds M f k s ↔ (sat M f k s ≡ true)
   unfolding Holds sat
   holds-sat f k = within-labelling f (suc k) k
-
-  -- So with smaller operands truth has the equations of document 01: fuel has no part in what a subformula means.
-  pub holds-meaning :
-      (f : List Subformula)
-      → Smaller f
-      → (k : ℕ)
-      → k < length f
-      → (s : ℕ)
-      → State M s
-      → Holds M f k s ↔ meaning M (Holds M f) (subformula f k) s
-  holds-meaning f smaller k h s l =
-      let same = sat-label M f smaller k h s in
-      let here = holds-sat f k s l in
-      let operands = meaning-label (Holds M f) (sat M f) (holds-sat f) (subformula f k) s l in
-      (λ x. operands .1 (sym same ∙ here .0 x), λ x. here .1 (same ∙ operands .0 x))

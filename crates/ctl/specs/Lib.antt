@@ -1,2 +1,3 @@
 pub mod Truth
 pub mod Labelling
+pub mod Renaming

@@ -3,28 +3,27 @@
 use Prim.Native.Nat.{ℕ, _+_, _≤_}
 use mathlib.Core.Path.{_≡_, refl, sym, _∙_}
 use mathlib.Core.List.{List}
-use mathlib.Core.Option.{Option}
 use mathlib.Core.Option as opt
 use native.Mathlib.Omega.{arith}
 use denote.Ref.{at-last}
-use Rattle.job.specs.Layout.{Text}
+use Rattle.text.specs.Field.{Text}
 use Rattle.job.specs.Layout as layout
 use Rattle.job.specs.Job.{decode}
-use Rattle.job.specs.Answer.{Answer}
-use Rattle.job.specs.Read.{readTold, readAnswer, unless, lineOf as partOf, header}
-use Rattle.job.specs.Questions as text
+use Rattle.job.specs.Answer.{Answer, accepted, refused}
+use Rattle.job.specs.Question.{Question, refusal}
+use Rattle.job.specs.Questions.{textQuestions}
+use Rattle.job.specs.Read.{readTold, readAnswer, lineOf as partOf, header}
 use Rattle.job.specs.declared.reader.Header as head
 use Rattle.job.specs.declared.reader.Refusal.{Refusal}
 use Rattle.job.specs.declared.reader.Reading as reading
 use Rattle.cells.specs.Table.{Table, ownerCell, filled, emptyCells}
-use Rattle.cells.specs.Questions.{Question, numberOf, lineOf}
 use Rattle.cells.specs.Close.{smallestOpen, closeTable}
 use Rattle.cells.specs.Finish as finishing
+use Rattle.job.proofs.QuestionLaws.{by-refusal, answered-none, answered-some, accepted-own, afterwards-none, afterwards-some}
 use Rattle.cells.proofs.Finish.{finish-rounds}
-use Rattle.cells.specs.Calls.{Call, fresh, step, offer, accept, look, close, finish, refusal, width, told, left, answerUnless, afterUnless, answer, after}
-use Rattle.cells.specs.Told.{freshTold}
-use Rattle.cells.specs.declared.fresh.Cleared as cleared
-use Rattle.calls.specs.Told.{stepTold, offerTold, acceptTold, lookTold, closeTold, finishTold, finishRounds}
+use Rattle.cells.specs.Calls.{Call, fresh, step, offer, accept, look, close, finish, questions, width, told, left, answer, after}
+use Rattle.calls.specs.declared.fresh.Cleared as cleared
+use Rattle.calls.specs.Told.{freshTold, stepTold, offerTold, acceptTold, lookTold, closeTold, finishTold, finishRounds}
 use Rattle.calls.specs.declared.step.Stepped as stepped
 use Rattle.calls.specs.declared.offer.Offered as offered
 use Rattle.calls.specs.declared.accept.Delivered as delivered
@@ -33,7 +32,7 @@ use Rattle.calls.specs.declared.close.Closing as closing
 use Rattle.calls.specs.declared.close.Closed as closed
 use Rattle.calls.specs.declared.finish.Outcome as outcome
 use Rattle.calls.specs.declared.finish.Finished as finished
-use Rattle.judge.specs.Judged.{verdictLine}
+use Rattle.verdict_line.specs.VerdictLine.{verdictLine}
 use Rattle.demands.specs.Contracts.{Lent, Happens, Reads, HandsBack, Prints, MayHappen}
 
 module _ (l : Lent) (x : Text) where
@@ -47,83 +46,98 @@ module _ (l : Lent) (x : Text) where
   happens-defined close t a u (r, is, (told, left)) = (sym is ∙ told, left)
   happens-defined finish t a u (r, is, (told, (left, few))) = (sym is ∙ told, left)
 
-  -- the refusal by a question, as the enums have it
-  abbrev by : Question → Refusal
-  by q = record { number = numberOf q; line = lineOf x q }
+  -- a case of a call's enum for its answer: `taken` says what the call tells where it is accepted, `turned` a refusal
+  module _ {Z : Type 0} (says : Z → Answer) (c : Call) (t : Table) where
+    enum-case :
+        (taken : Z) (turned : Refusal → Z)
+        → says taken ≡ accepted (told c (decode x) t)
+        → ((why : Refusal) → says (turned why) ≡ refused (why .number) (why .line) (width c))
+        → (z : Z) × (says z ≡ answer c x t)
+    unfolding answer
+    enum-case taken turned taken-says turned-says =
+        let qs = questions c x t in
+        let own = told c (decode x) t in
+        by-refusal qs
+        (λ e. (taken, taken-says ∙ sym (answered-none qs (width c) own e)))
+        (λ q e.
+        let why : Refusal = record { number = q .number; line = q .line } in
+        (turned why, turned-says why ∙ sym (answered-some qs (width c) own q e)))
 
-  -- an enum's case for the answer of each call
   module _ (t : Table) where
-    fresh-case : (r : Option Question) → (z : cleared.Cleared) × (freshTold z ≡ answerUnless r fresh x t)
-    unfolding freshTold answerUnless told width
-    fresh-case opt.none = (cleared.the-variants.Accepted, refl)
-    fresh-case (opt.some q) = (cleared.the-variants.Refused (by q), refl)
+    fresh-case : (z : cleared.Cleared) × (freshTold z ≡ answer fresh x t)
+    unfolding freshTold told width
+    fresh-case = enum-case freshTold fresh t cleared.the-variants.Accepted cleared.the-variants.Refused refl (λ why. refl)
 
-    step-case : (n : ℕ) (r : Option Question) → (z : stepped.Stepped) × (stepTold z ≡ answerUnless r (step n) x t)
-    unfolding stepTold answerUnless told width
-    step-case n opt.none = (stepped.the-variants.Accepted _, refl)
-    step-case n (opt.some q) = (stepped.the-variants.Refused (by q), refl)
+    step-case : (n : ℕ) → (z : stepped.Stepped) × (stepTold z ≡ answer (step n) x t)
+    unfolding stepTold told width
+    step-case n = enum-case stepTold (step n) t (stepped.the-variants.Accepted _) stepped.the-variants.Refused refl (λ why. refl)
 
-    offer-case : (s k : ℕ) (r : Option Question) → (z : offered.Offered) × (offerTold z ≡ answerUnless r (offer s k) x t)
-    unfolding offerTold answerUnless told width
-    offer-case s k opt.none =
-        (offered.the-variants.Accepted (record { state = s; subformula = k; value = ownerCell (decode x) t s k }), refl)
-    offer-case s k (opt.some q) = (offered.the-variants.Refused (by q), refl)
+    offer-case : (s k : ℕ) → (z : offered.Offered) × (offerTold z ≡ answer (offer s k) x t)
+    unfolding offerTold told width
+    offer-case s k =
+        enum-case offerTold (offer s k) t
+        (offered.the-variants.Accepted (record { state = s; subformula = k; value = ownerCell (decode x) t s k })) offered.the-variants.Refused refl
+        (λ why. refl)
 
-    accept-case : (n s k v : ℕ) (r : Option Question) → (z : delivered.Delivered) × (acceptTold z ≡ answerUnless r (accept n s k v) x t)
-    unfolding acceptTold answerUnless told width
-    accept-case n s k v opt.none = (delivered.the-variants.Accepted _, refl)
-    accept-case n s k v (opt.some q) = (delivered.the-variants.Refused (by q), refl)
+    accept-case : (n s k v : ℕ) → (z : delivered.Delivered) × (acceptTold z ≡ answer (accept n s k v) x t)
+    unfolding acceptTold told width
+    accept-case n s k v =
+        enum-case acceptTold (accept n s k v) t (delivered.the-variants.Accepted _) delivered.the-variants.Refused refl (λ why. refl)
 
-    look-case : (n s k : ℕ) (r : Option Question) → (z : looked.Looked) × (lookTold z ≡ answerUnless r (look n s k) x t)
-    unfolding lookTold answerUnless told width
-    look-case n s k opt.none = (looked.the-variants.Accepted _, refl)
-    look-case n s k (opt.some q) = (looked.the-variants.Refused (by q), refl)
+    look-case : (n s k : ℕ) → (z : looked.Looked) × (lookTold z ≡ answer (look n s k) x t)
+    unfolding lookTold told width
+    look-case n s k = enum-case lookTold (look n s k) t (looked.the-variants.Accepted _) looked.the-variants.Refused refl (λ why. refl)
 
-    close-case : (r : Option Question) → (z : closed.Closed) × (closeTold z ≡ answerUnless r close x t)
-    unfolding closeTold answerUnless told width
-    close-case opt.none =
+    close-case : (z : closed.Closed) × (closeTold z ≡ answer close x t)
+    unfolding closeTold told width
+    close-case =
         let own : closing.Closing = record { subformula = smallestOpen (decode x) t; filled = filled t (closeTable (decode x) t) } in
-        (closed.the-variants.Accepted own, refl)
-    close-case (opt.some q) = (closed.the-variants.Refused (by q), refl)
+        enum-case closeTold close t (closed.the-variants.Accepted own) closed.the-variants.Refused refl (λ why. refl)
 
-    finish-case :
-        (r : Option Question)
-        → (z : finished.Finished)
-        × (finishTold z ≡ answerUnless r finish x t)
-        × (finishRounds z ≤ emptyCells (decode x) t + 1)
-    unfolding finishTold finishRounds answerUnless told width
-    finish-case opt.none =
+    finish-case : (z : finished.Finished) × (finishTold z ≡ answer finish x t)
+    unfolding finishTold told width
+    finish-case =
         let done = finishing.finish (decode x) t in
         let own : outcome.Outcome = record { verdict = finishing.verdict (decode x) (done .table); rounds = done .rounds; cells = done .cells } in
-        (finished.the-variants.Accepted own, refl, finish-rounds (decode x) t)
-    finish-case (opt.some q) = (finished.the-variants.Refused (by q), refl, omega arith)
+        enum-case finishTold finish t (finished.the-variants.Accepted own) finished.the-variants.Refused refl (λ why. refl)
 
-    -- offer and look leave the table
-    offer-stays : (s k : ℕ) (r : Option Question) → afterUnless r (offer s k) x t ≡ t
-    unfolding afterUnless left
-    offer-stays s k opt.none = refl
-    offer-stays s k (opt.some q) = refl
+    -- its rounds are those of the definition, or 0
+    finish-few : (z : finished.Finished) → finishTold z ≡ answer finish x t → finishRounds z ≤ emptyCells (decode x) t + 1
+    unfolding finishTold finishRounds answer told
+    finish-few (finished.the-variants.Accepted own) is =
+        let same = accepted-own (questions finish x t) (width finish) (told finish (decode x) t) _ is in
+        let rounds : own .rounds ≡ finishing.finish (decode x) t .rounds = cc in
+        omega (arith, finish-rounds (decode x) t)
+    finish-few (finished.the-variants.Refused why) is = omega arith
 
-    look-stays : (n s k : ℕ) (r : Option Question) → afterUnless r (look n s k) x t ≡ t
-    unfolding afterUnless left
-    look-stays n s k opt.none = refl
-    look-stays n s k (opt.some q) = refl
+  -- offer and look leave the table
+  stays : (c : Call) (t : Table) → left c (decode x) t ≡ t → after c x t ≡ t
+  unfolding after
+  stays c t same =
+      let qs = questions c x t in
+      by-refusal qs (λ e. afterwards-none qs t (left c (decode x) t) e ∙ same) (λ q e. afterwards-some qs t (left c (decode x) t) q e)
+
+  offer-stays : (s k : ℕ) (t : Table) → after (offer s k) x t ≡ t
+  unfolding left
+  offer-stays s k t = stays (offer s k) t refl
+
+  look-stays : (n s k : ℕ) (t : Table) → after (look n s k) x t ≡ t
+  unfolding left
+  look-stays n s k t = stays (look n s k) t refl
 
   defined-happens : (c : Call) (t : Table) → Happens l x c t (answer c x t) (after c x t)
-  unfolding Happens answer after
-  defined-happens fresh t = let (z, is) = fresh-case t (refusal fresh x t) in (z, is, (is, refl))
-  defined-happens (step n) t = let (z, is) = step-case t n (refusal (step n) x t) in (z, is, (is, refl))
+  unfolding Happens
+  defined-happens fresh t = let (z, is) = fresh-case t in (z, is, (is, refl))
+  defined-happens (step n) t = let (z, is) = step-case t n in (z, is, (is, refl))
   defined-happens (offer s k) t =
-      let r = refusal (offer s k) x t in
-      let (z, is) = offer-case t s k r in
-      (z, is, offer-stays t s k r, (is, sym (offer-stays t s k r)))
-  defined-happens (accept n s k v) t = let (z, is) = accept-case t n s k v (refusal (accept n s k v) x t) in (z, is, (is, refl))
+      let (z, is) = offer-case t s k in
+      (z, is, offer-stays s k t, (is, sym (offer-stays s k t)))
+  defined-happens (accept n s k v) t = let (z, is) = accept-case t n s k v in (z, is, (is, refl))
   defined-happens (look n s k) t =
-      let r = refusal (look n s k) x t in
-      let (z, is) = look-case t n s k r in
-      (z, is, look-stays t n s k r, (is, sym (look-stays t n s k r)))
-  defined-happens close t = let (z, is) = close-case t (refusal close x t) in (z, is, (is, refl))
-  defined-happens finish t = let (z, is, few) = finish-case t (refusal finish x t) in (z, is, (is, (refl, few)))
+      let (z, is) = look-case t n s k in
+      (z, is, look-stays n s k t, (is, sym (look-stays n s k t)))
+  defined-happens close t = let (z, is) = close-case t in (z, is, (is, refl))
+  defined-happens finish t = let (z, is) = finish-case t in (z, is, (is, (refl, finish-few t z is)))
 
   -- read, line and the printed line
   pub reads-defined : (a : Answer) → Reads l x a → a ≡ readAnswer x
@@ -131,16 +145,18 @@ module _ (l : Lent) (x : Text) where
   reads-defined a (r, is, told) = sym is ∙ told
 
   defined-reads : Reads l x (readAnswer x)
-  unfolding Reads readAnswer readTold unless header
-  defined-reads = let (z, is) = by-refusal (text.refusal x) in (z, is, is)
+  unfolding Reads readAnswer readTold header
+  defined-reads = let (z, is) = by-refusal (textQuestions x) as-accepted as-refused in (z, is, is)
     where
-      by-refusal : (r : Option text.Question) → (z : reading.Reading) × (readTold z ≡ unless x r (header x))
-      by-refusal opt.none =
+      as-accepted : refusal (textQuestions x) ≡ opt.none → (z : reading.Reading) × (readTold z ≡ readAnswer x)
+      as-accepted e =
           let own : head.Header =
           record { states = layout.states x; edges = layout.edges x; subformulas = layout.subformulas x; nodes = layout.nodes x } in
-          (reading.the-variants.Accepted own, refl)
-      by-refusal (opt.some q) =
-          (reading.the-variants.Refused (record { number = text.numberOf q; line = text.noLine (text.asked q x) }), refl)
+          (reading.the-variants.Accepted own, sym (answered-none (textQuestions x) 4 (header x) e))
+
+      as-refused : (q : Question) → refusal (textQuestions x) ≡ opt.some q → (z : reading.Reading) × (readTold z ≡ readAnswer x)
+      as-refused q e =
+          (reading.the-variants.Refused (record { number = q .number; line = q .line }), sym (answered-some (textQuestions x) 4 (header x) q e))
 
   pub back-defined : (n : ℕ) (part : List ℕ) → HandsBack l x n part → part ≡ partOf x n
   unfolding HandsBack

@@ -4,17 +4,17 @@ use Prim.Native.Nat.{ℕ}
 use mathlib.Core.Path.{_≡_}
 use mathlib.Core.List.{List, _∷_}
 use mathlib.Core.Logic.{_↔_}
-use Rattle.job.specs.Layout.{Text}
+use Rattle.text.specs.Field.{Text}
 use Rattle.job.specs.Job.{Job, decode}
 use Rattle.job.specs.Answer.{Answer, accepted, refused}
-use Rattle.job.specs.Questions.{Accepted}
-use Rattle.job.specs.Read.{lineOf}
+use Rattle.job.specs.Questions.{textQuestions, Accepted}
+use Rattle.job.specs.Read.{header, lineOf}
 use Rattle.cells.specs.Table.{Table}
 use Rattle.cells.specs.SetRule.{SetRule}
-use Rattle.cells.specs.Calls.{Call, step, finish}
+use Rattle.cells.specs.Calls.{Call, step, finish, questions, width, told}
 use Rattle.cells.specs.Cases.{bytes, jobV, job2, job3}
 use Rattle.demands.specs.Contracts.{Lent, Happens, Reads, HandsBack, Prints, MayHappen}
-use Rattle.demands.specs.Demand1.{AsksNothing, Proved, ReadsOrRefuses, ReadsOrRefusesText}
+use Rattle.demands.specs.Demand1.{AsksNothing, Proved, AnswersBy}
 use Rattle.demands.specs.Demand2.{Accepts, JobText, FilledByRules, SmallestAndLargest, Judged}
 use Rattle.demands.specs.Demand3.{FreshFor, ListOfCalls, leftBy, AsDefined, CellsTrue, OneMoreFinish, OneMachine}
 use Rattle.demands.proofs.Proved.{asks-nothing, proved}
@@ -32,10 +32,10 @@ any-bytes-and-any-numbers = asks-nothing
 
 -- every call reads or refuses under the number of the first check that fails,
 module _ (l : Lent) (x : Text) where
-  pub reads-or-refuses : (c : Call) (t u : Table) (a : Answer) → Happens l x c t a u → ReadsOrRefuses c x t a
+  pub reads-or-refuses : (c : Call) (t u : Table) (a : Answer) → Happens l x c t a u → AnswersBy (questions c x t) (width c) (told c (decode x) t) a
   reads-or-refuses = happens-first l x
 
-  pub read-reads-or-refuses : (a : Answer) → Reads l x a → ReadsOrRefusesText x a
+  pub read-reads-or-refuses : (a : Answer) → Reads l x a → AnswersBy (textQuestions x) 4 (header x) a
   read-reads-or-refuses = reads-first x l
 
   pub line-hands-back : (n : ℕ) (part : List ℕ) → HandsBack l x n part → part ≡ lineOf x n

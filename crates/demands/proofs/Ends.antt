@@ -7,8 +7,8 @@ use native.Mathlib.Omega.{arith}
 use lib.ListN.{length}
 use Rattle.law.proofs.Bool.{clash}
 use Rattle.law.proofs.Bounded.{by-equal}
-use Rattle.job.specs.Layout.{Text}
-use Rattle.job.specs.Job.{Job, Structure, decode, size, depth}
+use Rattle.text.specs.Field.{Text}
+use Rattle.job.specs.Job.{Job, Structure, decode, size, subformulaCount}
 use Rattle.job.specs.declared.subformula.Subformula.{Subformula}
 use Rattle.job.specs.Answer.{Answer, accepted}
 use Rattle.job.specs.Questions.{Accepted}
@@ -72,7 +72,7 @@ module _ (x : Text) (is : Accepted x) where
         cells = done .cells;
         told = taken-told finish x t (finish-taken x t is (sound .formed));
         truth =
-            filled-truth (depth J - 1) 0 (finishing.verdict J (done .table)) (first-state J job)
+            filled-truth (subformulaCount J - 1) 0 (finishing.verdict J (done .table)) (first-state J job)
             (verdict-filled J job t (sound .formed))
             (verdict-tells J job t sound);
         few = finish-rounds J t;
@@ -106,7 +106,7 @@ fresh-finish x t new = calls-finish x (record { start = t; fresh-start = new; ev
 -- One machine and rule have one truth at the first state, so two finishes that answer it have one verdict.
 module _ (x y : Text) (same : OneMachine x y) where
   same-truth : (t u : Table) (a b : Answer) (f : Finishes x t a) (g : Finishes y u b) → f .verdict ≡ g .verdict
-  unfolding depth
+  unfolding subformulaCount
   same-truth t u a b f g =
       let v = f .verdict in
       let whole : Structure → List Subformula → Type 0 = λ M f. Holds M f (length f - 1) 0 in

@@ -9,8 +9,9 @@ use borrow.Author.Tests.{lt-ltb, le-ltb}
 use lib.ListN.{getD}
 use lib.Dec.{ltb}
 use Rattle.law.proofs.Bool.{cond-true, and-intro}
-use Rattle.job.specs.Layout.{Text}
-use Rattle.job.specs.Job.{Job, decode, size, depth, subformula}
+use Rattle.text.specs.Field.{Text}
+use Rattle.job.specs.Job.{Job, decode, size, subformulaCount}
+use Rattle.job.specs.Rule.{ruleAt}
 use Rattle.job.specs.Answer.{accepted}
 use Rattle.job.specs.Written.{IsJob}
 use Rattle.job.proofs.Exact.{decode-is-job}
@@ -22,7 +23,7 @@ use Rattle.cells.specs.Calls.{step, told, left}
 use Rattle.cells.proofs.Index.{nodeOf-index, stateOf-index}
 use Rattle.cells.proofs.Fill.{is-empty}
 use Rattle.cells.proofs.Kept.{stepUpTo-keeps}
-use Rattle.cells.proofs.Columns.{kind, column-same}
+use Rattle.cells.proofs.Columns.{column-same}
 use Rattle.cells.proofs.Local.{columnOf, stepColumn-cell, stepColumn-other, stepTable-node, read-lt}
 use Rattle.cells.proofs.Sets.{smallest-is, largest-is}
 use Rattle.cells.proofs.Grown.{stepTable-grown}
@@ -36,35 +37,34 @@ module _ (J : Job) (job : IsJob J) (n : ℕ) (t : Table) where
   u = stepTable J n t
 
   -- before the column of k is worked its cells are as they were
-  before : (i k s : ℕ) → i ≤ k → k < depth J → cell J (stepUpTo J n i t) n s k ≡ cell J t n s k
+  before : (i k s : ℕ) → i ≤ k → k < subformulaCount J → cell J (stepUpTo J n i t) n s k ≡ cell J t n s k
   unfolding stepUpTo
   before zero k s l under = refl
   before (suc i) k s l under =
       stepColumn-other J n i (stepUpTo J n i t) n s k under (λ e. omega arith) ∙ before i k s (omega arith) under
 
   -- and behind it they are as the whole step leaves them
-  behind : (k j s : ℕ) → j < k → k ≤ depth J → cell J u n s j ≡ cell J (stepUpTo J n k t) n s j
+  behind : (k j s : ℕ) → j < k → k ≤ subformulaCount J → cell J u n s j ≡ cell J (stepUpTo J n k t) n s j
   unfolding stepTable
   behind k j s l under =
       stepUpTo-keeps J (λ v w. cell J w n s j ≡ cell J v n s j) (λ v. refl) (λ v w z p q. q ∙ p) n k
-      (λ i v m h. stepColumn-other J n i v n s j (omega arith) (λ e. omega arith)) (depth J) t under (le-refl (depth J))
+      (λ i v m h. stepColumn-other J n i v n s j (omega arith) (λ e. omega arith)) (subformulaCount J) t under (le-refl (subformulaCount J))
 
   -- so the rule of k has what it reads
-  column-ruled : (k : ℕ) → k < depth J → (s : ℕ) → getD (columnOf J n k (stepUpTo J n k t)) s 2 ≡ ruled J n t u k s
+  column-ruled : (k : ℕ) → k < subformulaCount J → (s : ℕ) → getD (columnOf J n k (stepUpTo J n k t)) s 2 ≡ ruled J n t u k s
   unfolding ruled
   column-ruled k under s =
-      let f = subformula (J .formula) k in
       let lt = read-lt J (job .operands) (λ e l. job .ends e l .1) n in
       ap (λ c. getD c s 2)
       (column-same J n k (λ j r. cell J (stepUpTo J n k t) n r j) (λ j r. cell J (cond (ltb j k) u t) n r j)
       (λ j h r at. rw (lt-ltb j k h) (sym (behind k j r h (omega arith))))
       (λ r h. rw (le-ltb k k (le-refl k)) (before k k r (le-refl k) under))
-      f (kind J n k f (job .operands k under)))
+      (ruleAt J k) (job .operands k under))
 
   cell-taken :
       (s k : ℕ)
       → s < size J
-      → k < depth J
+      → k < subformulaCount J
       → inFragment J n s ≡ true
       → cell J t n s k ≡ 2
       → cell J u n s k ≡ ruled J n t u k s
@@ -78,7 +78,7 @@ module _ (J : Job) (job : IsJob J) (n : ℕ) (t : Table) where
       (and-intro (isEmpty (cell J w n s k)) (inFragment J n s) (is-empty (cell J w n s k) own) inside)
       ∙ column-ruled k under s
 
-  cell-outside : (s k : ℕ) → s < size J → k < depth J → inFragment J n s ≡ false → cell J u n s k ≡ cell J t n s k
+  cell-outside : (s k : ℕ) → s < size J → k < subformulaCount J → inFragment J n s ≡ false → cell J u n s k ≡ cell J t n s k
   unfolding cell
   cell-outside s k l under out =
       stepTable-grown J n t .outside (index J n s k)

@@ -6,11 +6,10 @@ use mathlib.Core.Path.{_≡_, refl, sym, subst}
 use mathlib.Core.List.{List, [], _∷_, map, List·Memᴰ, List·Memᴰ·head}
 use native.Mathlib.Omega.{arith}
 use lib.ListN.{length-replicate}
-use Rattle.job.specs.Layout.{Text}
+use Rattle.text.specs.Field.{Text}
 use Rattle.job.specs.Job.{decode}
 use Rattle.job.specs.Answer.{accepted, refused}
 use Rattle.job.specs.Questions.{Accepted}
-use Rattle.job.specs.Read.{readAnswer, unless, header}
 use Rattle.cells.specs.Table.{Table, tableLength}
 use Rattle.cells.specs.Calls.{Call, fresh, step, offer, accept, close, answer, after}
 use Rattle.cells.specs.Cases.{bytes, jobV, job2, job3, zeros}
@@ -47,10 +46,9 @@ played-happened (c ∷ cs) t =
     (may-happen lent (c .text) .call (c .call) t, played-happened cs (after (c .call) (c .text) t))
 
 pub fresh-for : (x : Text) → Accepted x → FreshFor x (after fresh x (zeros x))
-unfolding zeros readAnswer unless Accepted
+unfolding zeros
 fresh-for x is =
-    let read : accepted (header x) ≡ readAnswer x = simp is in
-    let told = fresh-accepted x (zeros x) (header x) read (length-replicate (tableLength (decode x)) 0) .0 in
+    let told = fresh-accepted x (zeros x) is (length-replicate (tableLength (decode x)) 0) .0 in
     record {
       lent = lent;
       before = zeros x;

@@ -4,15 +4,14 @@ use Prim.Native.Nat.{ℕ}
 use mathlib.Core.Path.{_≡_, refl, sym, _∙_, subst}
 use mathlib.Core.List.{List, [], _∷_, _++_, List·Memᴰ, List·Memᴰ·not-nil, List·Memᴰ·append-cases, List·Memᴰ·eq-of-singleton}
 use mathlib.Core.Logic.{⊎-elim}
-use mathlib.Core.Option as opt
-use Rattle.job.specs.Layout.{Text}
+use Rattle.text.specs.Field.{Text}
 use Rattle.job.specs.Job.{Job, decode}
 use Rattle.job.specs.Answer.{accepted, refused}
 use Rattle.job.specs.Questions.{Accepted}
 use Rattle.job.specs.Written.{IsJob}
 use Rattle.job.proofs.Exact.{decode-is-job}
 use Rattle.cells.specs.Table.{Table}
-use Rattle.cells.specs.Calls.{Call, fresh, step, offer, accept, look, close, finish, refusal, told, left, answer, after}
+use Rattle.cells.specs.Calls.{Call, fresh, step, offer, accept, look, close, finish, told, left, answer, after}
 use Rattle.demands.specs.Demand3.{Event, Happened, lastTable, Message, handedOut, Allowed, isRefused, isMeant, Meant, FreshFor, AsDefined}
 use Rattle.cells.proofs.Tells.{Tells}
 use Rattle.cells.proofs.Sound.{truth, Sound, freshTable-sound, ownerCell-tells, stepTable-sound, acceptTable-sound}
@@ -20,7 +19,7 @@ use Rattle.cells.proofs.Settled.{settled-is}
 use Rattle.cells.proofs.Close.{closeTable-sound}
 use Rattle.cells.proofs.Verdict.{finish-sound}
 use Rattle.demands.proofs.Contracts.{happens-defined}
-use Rattle.demands.proofs.Calls.{refused-stays, accepted-taken, by-refusal, taken-told, taken-left, taken-accepted, fresh-asked, step-asked, offer-asked, accept-asked, close-asked}
+use Rattle.demands.proofs.Calls.{Taken, refused-stays, accepted-taken, by-answer, taken-told, taken-left, taken-accepted, fresh-asked, step-asked, offer-asked, accept-asked, close-asked}
 
 abbrev MessageTrue : Job → Message → Type 0
 MessageTrue J m = Tells 1 (m .value) (truth J (m .subformula) (m .state))
@@ -40,7 +39,7 @@ module _ (x : Text) (is : Accepted x) where
   module _ (t : Table) (sound : Sound J t) where
     left-sound :
         (c : Call)
-        → refusal c x t ≡ opt.none
+        → Taken c x t
         → ((n s k v : ℕ) → c ≡ accept n s k v → MessageTrue J (record { state = s; subformula = k; value = v }))
         → Sound J (left c J t)
     unfolding left
@@ -58,7 +57,7 @@ module _ (x : Text) (is : Accepted x) where
     -- what it hands out is true
     handed-true :
         (c : Call)
-        → refusal c x t ≡ opt.none
+        → Taken c x t
         → (m : Message)
         → List·Memᴰ m (handedOut (accepted (told c J t)) c)
         → MessageTrue J m
@@ -83,7 +82,7 @@ module _ (x : Text) (is : Accepted x) where
 
     taken-keeps :
         (c : Call)
-        → refusal c x t ≡ opt.none
+        → Taken c x t
         → ((n s k v : ℕ) → c ≡ accept n s k v → List·Memᴰ (record { state = s; subformula = k; value = v }) out)
         → Kept c x
     taken-keeps c taken message =
@@ -102,7 +101,7 @@ module _ (x : Text) (is : Accepted x) where
     allowed-keeps e is (isRefused number line others told-is) =
         refused-keeps (e .call) (e .text) number line others (sym is ∙ told-is)
     allowed-keeps e is (isMeant same message) =
-        rw same (by-refusal (e .call) x t (refused-keeps (e .call) x) (λ taken. taken-keeps (e .call) taken message))
+        rw same (by-answer (e .call) x t (refused-keeps (e .call) x) (λ taken. taken-keeps (e .call) taken message))
 
   meant-sound :
       (es : List Event) (out : List Message) (t : Table)
@@ -126,7 +125,7 @@ happened-defined (e ∷ es) t (now, later) =
 
 -- A table fresh for a text: the text is accepted, and the table is of its length, with no filled cell.
 module _ (x : Text) (t : Table) (new : FreshFor x t) where
-  fresh-taken : refusal fresh x (new .before) ≡ opt.none
+  fresh-taken : Taken fresh x (new .before)
   fresh-taken =
       accepted-taken fresh x (new .before) [] (sym (happens-defined (new .lent) x fresh (new .before) (accepted []) t (new .made) .0))
 

@@ -1,24 +1,24 @@
 -- From bytes to truth: what `verdict` prints of any text, in the words of `specs/Demand2.antt`. Assumes nothing.
-use mathlib.Core.Path.{_≡_, refl, sym, _∙_, ap, subst}
+use mathlib.Core.Path.{_≡_, sym, _∙_, ap, subst}
 use Prim.Native.Nat.{ℕ}
-use mathlib.Core.List.{List, [], _∷_, map, append-nil}
-use native.Mathlib.Omega.{arith}
-use mathlib.Core.Option.{Option}
+use mathlib.Core.List.{List, [], _∷_, append-nil}
 use mathlib.Core.Option as opt
 use lib.ListN.{length, replicate, length-replicate}
-use Rattle.job.specs.Layout.{Text}
+use Rattle.text.specs.Field.{Text}
 use Rattle.job.specs.Job.{decode}
 use Rattle.job.specs.Answer.{numbers}
-use Rattle.job.specs.Questions as text
-use Rattle.job.specs.Read.{readAnswer, unless, header}
-use Rattle.job.specs.Written.{line}
+use Rattle.job.specs.Question.{Question, refusal}
+use Rattle.job.specs.Questions.{textQuestions, Accepted}
+use Rattle.job.specs.Read.{readAnswer, header}
+use Rattle.text.specs.Decimal.{line, Short}
 use Rattle.cells.specs.Table.{Table, tableLength, freshTable}
 use Rattle.cells.specs.Calls.{finish, width, answer}
 use Rattle.cells.proofs.Sound.{Sound, freshTable-sound}
 use Rattle.cells.proofs.CallLaws.{text-refused}
-use Rattle.job.proofs.Line.{Short, numbersAt, reads-numbers, line-reads}
-use Rattle.judge.specs.Judged.{verdictLine, shown}
-use Rattle.judge.proofs.ShownLaws.{all-shown}
+use Rattle.job.proofs.QuestionLaws.{by-refusal, answered-some}
+use Rattle.text.proofs.Line.{numbersAt, reads-numbers, line-reads}
+use Rattle.verdict_line.specs.VerdictLine.{verdictLine}
+use Rattle.verdict_line.proofs.ShortLaws.{answer-short}
 use Rattle.demands.specs.Contracts.{Lent, Prints}
 use Rattle.demands.specs.Demand2.{Shows, Judged, asRefused, asTrue}
 use Rattle.demands.proofs.Contracts.{prints-defined}
@@ -34,15 +34,6 @@ module _ (x : Text) where
       let long : length start ≡ tableLength (decode x) = length-replicate (tableLength (decode x)) 2 in
       subst (λ n. Sound (decode x) (replicate n 2)) long (freshTable-sound (decode x) start long)
 
-  -- numbers that five columns show whole can be read back
-  shown-short : (ns : List ℕ) → map shown ns ≡ ns → Short ns
-  unfolding Short
-  shown-short [] whole = tt
-  shown-short (n ∷ ns) whole =
-      let here : shown n ≡ n = cc in
-      let later : map shown ns ≡ ns = cc in
-      (omega (arith, here), shown-short ns later)
-
   line-shows :
       (a b c d e : ℕ)
       → let ns = a ∷ b ∷ c ∷ d ∷ e ∷ [] in
@@ -50,23 +41,25 @@ module _ (x : Text) where
   unfolding verdictLine numbersAt
   line-shows a b c d e is =
       let ns : List ℕ = a ∷ b ∷ c ∷ d ∷ e ∷ [] in
-      let whole : map shown ns ≡ ns = subst (λ l. map shown l ≡ l) is (all-shown x) in
+      let short : Short ns = subst Short is (answer-short x) in
       let said : verdictLine x ≡ line ns = ap line is in
       record {
         bytes = said;
-        reads = reads-numbers (verdictLine x) ns 0 (line-reads (verdictLine x) ns 0 [] (said ∙ sym (append-nil (line ns))) (shown-short ns whole));
+        reads = reads-numbers (verdictLine x) ns 0 (line-reads (verdictLine x) ns 0 [] (said ∙ sym (append-nil (line ns))) short);
       }
 
   line-judged : Judged x (verdictLine x)
-  unfolding readAnswer unless numbers width text.Accepted
-  line-judged = by-refusal (text.refusal x) refl
+  unfolding readAnswer numbers width Accepted
+  line-judged = by-refusal (textQuestions x) as-true as-refused
     where
-      by-refusal : (r : Option text.Question) → text.refusal x ≡ r → Judged x (verdictLine x)
-      by-refusal opt.none e =
+      as-true : Accepted x → Judged x (verdictLine x)
+      as-true e =
           let f = sound-finishes x e start start-sound in
           asTrue (f .verdict) (f .rounds) (f .cells) e (f .truth) (line-shows 0 0 (f .verdict) (f .rounds) (f .cells) (ap numbers (f .told)))
-      by-refusal (opt.some q) e =
-          let why : readAnswer x ≡ unless x (opt.some q) (header x) = ap (λ r. unless x r (header x)) e in
+
+      as-refused : (q : Question) → refusal (textQuestions x) ≡ opt.some q → Judged x (verdictLine x)
+      as-refused q e =
+          let why = answered-some (textQuestions x) 4 (header x) q e in
           asRefused _ _ why (line-shows _ _ 0 0 0 (ap numbers (sym (text-refused finish x start _ _ _ (sym why) .0))))
 
   pub prints-judged : (l : Lent) (said : List ℕ) → Prints l x said → Judged x said

@@ -1,14 +1,14 @@
 -- What the toolchain proved of each function, gathered: none asks anything, and each meets its contract. Assumes nothing.
-use Rattle.job.proofs.reader.read.Met.{met as read-met}
-use Rattle.job.proofs.layout.line.Met.{met as line-met}
-use Rattle.cells.proofs.fresh.fresh.Met.{met as fresh-met}
+use Rattle.calls.proofs.read.read.Met.{met as read-met}
+use Rattle.calls.proofs.line.line.Met.{met as line-met}
+use Rattle.calls.proofs.fresh.fresh.Met.{met as fresh-met}
 use Rattle.calls.proofs.step.step.Met.{met as step-met}
 use Rattle.calls.proofs.offer.offer.Met.{met as offer-met}
 use Rattle.calls.proofs.accept.accept.Met.{met as accept-met}
 use Rattle.calls.proofs.look.look.Met.{met as look-met}
 use Rattle.calls.proofs.close.close.Met.{met as close-met}
 use Rattle.calls.proofs.finish.finish.Met.{met as finish-met}
-use Rattle.judge.proofs.judge.Met.{met as judge-met}
+use Rattle.verdict_line.proofs.verdict_line.Met.{met as verdict-line-met}
 use Rattle.demands.specs.Demand1.{AsksNothing, Proved}
 
 pub asks-nothing : AsksNothing
@@ -23,7 +23,7 @@ asks-nothing =
       look = λ κs a. tt;
       close = λ κs a. tt;
       finish = λ κs a. tt;
-      judge = λ κs a. tt;
+      verdictLine = λ κs a. tt;
     }
 
 pub proved : {M : Type 1} → Proved M
@@ -38,5 +38,5 @@ proved =
       look = look-met;
       close = close-met;
       finish = finish-met;
-      judge = judge-met;
+      verdictLine = verdict-line-met;
     }

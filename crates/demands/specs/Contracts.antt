@@ -6,15 +6,14 @@ use mathlib.Core.Path.{_≡_}
 use mathlib.Core.List.{List}
 use contract.Lifetimes.{Lfts}
 use denote.Ref.{RefT, at-last}
-use Rattle.job.specs.Layout.{Text}
+use Rattle.text.specs.Field.{Text}
 use Rattle.job.specs.Answer.{Answer}
 use Rattle.job.specs.Read.{readTold, readAnswer, lineOf}
 use Rattle.job.specs.declared.reader.Reading.{Reading}
 use Rattle.cells.specs.Table.{Table}
 use Rattle.cells.specs.Calls.{Call, fresh, step, offer, accept, look, close, finish, answer, after}
-use Rattle.cells.specs.Told.{freshTold}
-use Rattle.cells.specs.declared.fresh.Cleared.{Cleared}
-use Rattle.calls.specs.Told.{stepTold, offerTold, acceptTold, lookTold, closeTold, finishTold}
+use Rattle.calls.specs.declared.fresh.Cleared.{Cleared}
+use Rattle.calls.specs.Told.{freshTold, stepTold, offerTold, acceptTold, lookTold, closeTold, finishTold}
 use Rattle.calls.specs.declared.step.Stepped.{Stepped}
 use Rattle.calls.specs.declared.offer.Message.{Message}
 use Rattle.calls.specs.declared.offer.Offered.{Offered}
@@ -22,17 +21,17 @@ use Rattle.calls.specs.declared.accept.Delivered.{Delivered}
 use Rattle.calls.specs.declared.look.Looked.{Looked}
 use Rattle.calls.specs.declared.close.Closed.{Closed}
 use Rattle.calls.specs.declared.finish.Finished.{Finished}
-use Rattle.judge.specs.Judged.{verdictLine}
-use Rattle.job.proofs.reader.read.Reads as reading
-use Rattle.job.proofs.layout.line.Reads as lining
-use Rattle.cells.proofs.fresh.fresh.Reads as clearing
+use Rattle.verdict_line.specs.VerdictLine.{verdictLine}
+use Rattle.calls.proofs.read.read.Reads as reading
+use Rattle.calls.proofs.line.line.Reads as lining
+use Rattle.calls.proofs.fresh.fresh.Reads as clearing
 use Rattle.calls.proofs.step.step.Reads as stepping
 use Rattle.calls.proofs.offer.offer.Reads as offering
 use Rattle.calls.proofs.accept.accept.Reads as accepting
 use Rattle.calls.proofs.look.look.Reads as looking
 use Rattle.calls.proofs.close.close.Reads as closing
 use Rattle.calls.proofs.finish.finish.Reads as finishing
-use Rattle.judge.proofs.judge.Reads as judging
+use Rattle.verdict_line.proofs.verdict_line.Reads as printing
 
 -- How text and table are lent. Contracts speak only of the values behind the references.
 pub record Lent : Type 0 where
@@ -92,7 +91,7 @@ module _ (l : Lent) (x : Text) where
       (r : RefT (List ℕ)) × (r .now ≡ part) × lining.Learnt (l .lifetimes .0, tt) (text, (n, tt)) r (text, (n, tt))
 
   unfoldable pub Prints : List ℕ → Type 0
-  Prints said = judging.Learnt (l .lifetimes .0, tt) (text, tt) said (text, tt)
+  Prints said = printing.Learnt (l .lifetimes .0, tt) (text, tt) said (text, tt)
 
 -- Whatever is lent, what is defined may happen.
 pub record MayHappen (l : Lent) (x : Text) : Type 0 where

@@ -1,26 +1,22 @@
 -- Demand 1: "Any bytes and any numbers: every call reads or refuses under the number of the first check that fails, a refused call
 -- changes no byte of the table, every call ends." The words of it that `proofs/Demands.antt` uses. Assumes nothing.
+use Prim.Native.Nat.{ℕ}
 use mathlib.Core.Path.{_≡_}
+use mathlib.Core.List.{List}
 use mathlib.Core.Option as opt
 use contract.Lifetimes.{Lfts}
 use borrow.Fn.Kinds.{Dens}
-use Rattle.job.specs.Layout.{Text}
-use Rattle.job.specs.Job.{decode}
 use Rattle.job.specs.Answer.{Answer, accepted, refused}
-use Rattle.job.specs.Questions as text
-use Rattle.job.specs.Read.{header}
-use Rattle.cells.specs.Table.{Table}
-use Rattle.cells.specs.Questions.{Question, numberOf, lineOf}
-use Rattle.cells.specs.Calls.{Call, refusal, told, width}
-use Rattle.job.proofs.reader.read.Kinds.{ps as read-takes}
-use Rattle.job.proofs.reader.read.Reads.{Asked as read-asks}
-use Rattle.job.proofs.reader.read.Statement.{statement as read-meets}
-use Rattle.job.proofs.layout.line.Kinds.{ps as line-takes}
-use Rattle.job.proofs.layout.line.Reads.{Asked as line-asks}
-use Rattle.job.proofs.layout.line.Statement.{statement as line-meets}
-use Rattle.cells.proofs.fresh.fresh.Kinds.{ps as fresh-takes}
-use Rattle.cells.proofs.fresh.fresh.Reads.{Asked as fresh-asks}
-use Rattle.cells.proofs.fresh.fresh.Statement.{statement as fresh-meets}
+use Rattle.job.specs.Question.{Question, refusal}
+use Rattle.calls.proofs.read.read.Kinds.{ps as read-takes}
+use Rattle.calls.proofs.read.read.Reads.{Asked as read-asks}
+use Rattle.calls.proofs.read.read.Statement.{statement as read-meets}
+use Rattle.calls.proofs.line.line.Kinds.{ps as line-takes}
+use Rattle.calls.proofs.line.line.Reads.{Asked as line-asks}
+use Rattle.calls.proofs.line.line.Statement.{statement as line-meets}
+use Rattle.calls.proofs.fresh.fresh.Kinds.{ps as fresh-takes}
+use Rattle.calls.proofs.fresh.fresh.Reads.{Asked as fresh-asks}
+use Rattle.calls.proofs.fresh.fresh.Statement.{statement as fresh-meets}
 use Rattle.calls.proofs.step.step.Kinds.{ps as step-takes}
 use Rattle.calls.proofs.step.step.Reads.{Asked as step-asks}
 use Rattle.calls.proofs.step.step.Statement.{statement as step-meets}
@@ -39,9 +35,9 @@ use Rattle.calls.proofs.close.close.Statement.{statement as close-meets}
 use Rattle.calls.proofs.finish.finish.Kinds.{ps as finish-takes}
 use Rattle.calls.proofs.finish.finish.Reads.{Asked as finish-asks}
 use Rattle.calls.proofs.finish.finish.Statement.{statement as finish-meets}
-use Rattle.judge.proofs.judge.Kinds.{ps as judge-takes}
-use Rattle.judge.proofs.judge.Reads.{Asked as judge-asks}
-use Rattle.judge.proofs.judge.Statement.{statement as judge-meets}
+use Rattle.verdict_line.proofs.verdict_line.Kinds.{ps as verdict-line-takes}
+use Rattle.verdict_line.proofs.verdict_line.Reads.{Asked as verdict-line-asks}
+use Rattle.verdict_line.proofs.verdict_line.Statement.{statement as verdict-line-meets}
 
 -- "Any bytes and any numbers": no contract asks anything of what is passed.
 pub record AsksNothing : Type 0 where
@@ -54,7 +50,7 @@ pub record AsksNothing : Type 0 where
   pub look : (κs : Lfts 2) (a : Dens κs look-takes) → look-asks κs a
   pub close : (κs : Lfts 2) (a : Dens κs close-takes) → close-asks κs a
   pub finish : (κs : Lfts 2) (a : Dens κs finish-takes) → finish-asks κs a
-  pub judge : (κs : Lfts 1) (a : Dens κs judge-takes) → judge-asks κs a
+  pub verdictLine : (κs : Lfts 1) (a : Dens κs verdict-line-takes) → verdict-line-asks κs a
 
 -- "every call ends": each function meets its contract, in every model of Rattle's logic. To meet a contract is, called with what it asks
 -- for, to return, and to leave what it promises (total correctness).
@@ -68,23 +64,14 @@ pub record Proved (M : Type 1) : Type 2 where
   pub look : look-meets M
   pub close : close-meets M
   pub finish : finish-meets M
-  pub judge : judge-meets M
+  pub verdictLine : verdict-line-meets M
 
 -- "reads or refuses under the number of the first check that fails": of the call's questions none is answered no, or q is the first that
--- is. Then the answer is its number, the line that it is about, and 0 in every other number.
-pub data ReadsOrRefuses (c : Call) (x : Text) (t : Table) (a : Answer) : Type 0 where
-  reads : refusal c x t ≡ opt.none → a ≡ accepted (told c (decode x) t) → ReadsOrRefuses c x t a
+-- is. Then the answer is its number, the line that it is about, and 0 in every other number, of which there are so many.
+pub data AnswersBy (questions : List Question) (others : ℕ) (own : List ℕ) (a : Answer) : Type 0 where
+  reads : refusal questions ≡ opt.none → a ≡ accepted own → AnswersBy questions others own a
   refuses :
       (q : Question)
-      → refusal c x t ≡ opt.some q
-      → a ≡ refused (numberOf q) (lineOf x q) (width c)
-      → ReadsOrRefuses c x t a
-
--- The same of read, which asks 1 to 8 and gives S, E, K, N.
-pub data ReadsOrRefusesText (x : Text) (a : Answer) : Type 0 where
-  reads : text.refusal x ≡ opt.none → a ≡ accepted (header x) → ReadsOrRefusesText x a
-  refuses :
-      (q : text.Question)
-      → text.refusal x ≡ opt.some q
-      → a ≡ refused (text.numberOf q) (text.noLine (text.asked q x)) 4
-      → ReadsOrRefusesText x a
+      → refusal questions ≡ opt.some q
+      → a ≡ refused (q .number) (q .line) others
+      → AnswersBy questions others own a

@@ -9,12 +9,14 @@ use mathlib.Core.Logic.{_↔_}
 use lib.ListN.{length, getD}
 use lib.Dec.{ltb}
 use Rattle.law.specs.Fixpoint.{member}
-use Rattle.job.specs.Layout.{Text, numberAt}
-use Rattle.job.specs.Job.{Job, decode, size, depth, subformula}
+use Rattle.text.specs.Field.{Text, numberAt}
+use Rattle.job.specs.Job.{Job, decode, size, subformulaCount}
+use Rattle.job.specs.Rule.{ruleAt}
 use Rattle.job.specs.Answer.{Answer, accepted, refused}
 use Rattle.job.specs.Questions.{Accepted}
 use Rattle.job.specs.Read.{readAnswer}
-use Rattle.job.specs.Written.{IsJob, written, line}
+use Rattle.text.specs.Decimal.{line}
+use Rattle.job.specs.Written.{IsJob, written}
 use Rattle.ctl.specs.Truth.{Holds}
 use Rattle.cells.specs.Fragment.{inFragment}
 use Rattle.cells.specs.Table.{Table, cell, filled}
@@ -36,7 +38,7 @@ pub record Accepts (a : Answer) : Type 0 where
 -- the cells of smaller subformulas as they are after the step, table u, and its own as they were before, table t.
 unfoldable pub ruled : Job → ℕ → Table → Table → ℕ → ℕ → ℕ
 ruled J n t u k s =
-    getD (column J n (λ j r. cell J (cond (ltb j k) u t) n r j) k (subformula (J .formula) k)) s 2
+    getD (column J n (λ j r. cell J (cond (ltb j k) u t) n r j) k (ruleAt J k)) s 2
 
 -- "a step fills exactly the cells that the rules fill", and its own numbers are how many
 pub record FilledByRules (J : Job) (n : ℕ) (t : Table) (own : List ℕ) (u : Table) : Type 0 where
@@ -45,13 +47,13 @@ pub record FilledByRules (J : Job) (n : ℕ) (t : Table) (own : List ℕ) (u : T
   -- "a filled cell is never changed"
   pub kept : (i : ℕ) → (getD t i 0 ≡ 2 → ⊥) → getD u i 0 ≡ getD t i 0
   pub other-node :
-      (m s k : ℕ) → s < size J → k < depth J → (m ≡ n → ⊥) → cell J u m s k ≡ cell J t m s k
-  pub outside : (s k : ℕ) → s < size J → k < depth J → inFragment J n s ≡ false → cell J u n s k ≡ cell J t n s k
+      (m s k : ℕ) → s < size J → k < subformulaCount J → (m ≡ n → ⊥) → cell J u m s k ≡ cell J t m s k
+  pub outside : (s k : ℕ) → s < size J → k < subformulaCount J → inFragment J n s ≡ false → cell J u n s k ≡ cell J t n s k
   -- "an empty cell, at each state of the fragment"
   pub taken :
       (s k : ℕ)
       → s < size J
-      → k < depth J
+      → k < subformulaCount J
       → inFragment J n s ≡ true
       → cell J t n s k ≡ 2
       → cell J u n s k ≡ ruled J n t u k s
@@ -88,6 +90,6 @@ pub data Judged (x : Text) (said : List ℕ) : Type 0 where
   asTrue :
       (verdict rounds cells : ℕ)
       → Accepted x
-      → IsTruth x (depth (decode x) - 1) 0 verdict
+      → IsTruth x (subformulaCount (decode x) - 1) 0 verdict
       → Shows said (0 ∷ 0 ∷ verdict ∷ rounds ∷ cells ∷ [])
       → Judged x said

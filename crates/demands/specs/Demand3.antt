@@ -7,8 +7,8 @@ use Prim.Native.Nat.{ℕ, _+_, _-_, _<_, _≤_}
 use mathlib.Core.Path.{_≡_}
 use mathlib.Core.List.{List, [], _∷_, _++_, List·Memᴰ}
 use lib.ListN.{getD}
-use Rattle.job.specs.Layout.{Text}
-use Rattle.job.specs.Job.{decode, size, depth}
+use Rattle.text.specs.Field.{Text}
+use Rattle.job.specs.Job.{decode, size, subformulaCount}
 use Rattle.job.specs.Answer.{Answer, accepted, refused}
 use Rattle.cells.specs.Table.{Table, cell, emptyCells}
 use Rattle.cells.specs.Calls.{Call, fresh, step, offer, accept, look, close, finish, answer, after}
@@ -96,7 +96,7 @@ CellsTrue x t =
     (n s k : ℕ)
     → n < decode x .nodes
     → s < size (decode x)
-    → k < depth (decode x)
+    → k < subformulaCount (decode x)
     → (cell (decode x) t n s k ≡ 2 → ⊥)
     → IsTruth x k s (cell (decode x) t n s k)
 
@@ -106,7 +106,7 @@ pub record Finishes (x : Text) (t : Table) (a : Answer) : Type 0 where
   pub rounds : ℕ
   pub cells : ℕ
   pub told : a ≡ accepted (verdict ∷ rounds ∷ cells ∷ [])
-  pub truth : IsTruth x (depth (decode x) - 1) 0 verdict
+  pub truth : IsTruth x (subformulaCount (decode x) - 1) 0 verdict
   pub few : rounds ≤ emptyCells (decode x) t + 1
 
 -- "one more finish": whatever it comes to by its contract

@@ -8,30 +8,31 @@ use native.Mathlib.Omega.{arith}
 use lib.ListN.{length, getD}
 use Rattle.law.specs.Lists.{tab}
 use Rattle.law.proofs.Lists.{tab-length, tab-at, tab-list}
-use Rattle.job.specs.Layout.{Text, lengthOf, stateAt, edgeAt, subformulaAt}
+use Rattle.text.specs.Field.{Text}
+use Rattle.job.specs.Layout.{lengthOf, stateAt, edgeAt, subformulaAt}
 use Rattle.job.specs.Layout as layout
 use Rattle.job.specs.Formula.{parsed, isFormula}
 use Rattle.job.specs.Formula as parsing
 use Rattle.job.specs.Questions.{formedLine, formulaOk}
-use Rattle.job.specs.Job.{Edge, Job, size, depth, owner, subformula, decode}
+use Rattle.job.specs.Job.{Edge, Job, size, subformulaCount, owner, subformula, decode}
 use Rattle.job.specs.Written.{label, noEdge, edgeOf, edgeCount, written, IsJob}
 use Rattle.job.specs.declared.subformula.Subformula.the-variants.{Atom}
 use Rattle.job.proofs.Asked.{pair, Passed}
 use Rattle.job.proofs.Formula.{Stands, parsed-stands, stands-parsed, formula-is, fields-length}
-use Rattle.job.proofs.Line.{formed-reads, reads-formed, reads-numbers}
+use Rattle.text.proofs.Line.{formed-reads, reads-formed, reads-numbers}
 use Rattle.job.proofs.Carries.{Carries, carries-written, written-carries, headLine, stateLine, edgeLine, formulaLine, edgesFrom, formulasFrom}
 use Rattle.job.proofs.Places.{by-line, two-formed, three-formed, head-numbers, state-numbers, edge-numbers, formula-numbers, edge-place, formula-place}
 
 pub record Agrees (t : Text) (J : Job) : Type 0 where
   pub states : layout.states t ≡ size J
   pub edges : layout.edges t ≡ edgeCount J
-  pub subformulas : layout.subformulas t ≡ depth J
+  pub subformulas : layout.subformulas t ≡ subformulaCount J
   pub nodes : layout.nodes t ≡ J .nodes
   pub owned : length (J .owners) ≡ size J
   pub owners : (s : ℕ) → s < size J → layout.owner t s ≡ owner J s
   pub labels : (s : ℕ) → s < size J → layout.label t s ≡ label J s
   pub pairs : (e : ℕ) → e < edgeCount J → pair t e ≡ edgeOf J e
-  pub formulas : (k : ℕ) → k < depth J → Stands k (layout.kind t k) (layout.left t k) (layout.right t k) (subformula (J .formula) k)
+  pub formulas : (k : ℕ) → k < subformulaCount J → Stands k (layout.kind t k) (layout.left t k) (layout.right t k) (subformula (J .formula) k)
 
 -- A text that has passed the questions agrees with the job that it is decoded as.
 module _ (t : Text) where
@@ -39,9 +40,9 @@ module _ (t : Text) where
   unfolding size decode
   decode-size = tab-length (layout.label t) (layout.states t)
 
-  decode-depth : depth (decode t) ≡ layout.subformulas t
-  unfolding depth decode
-  decode-depth = tab-length _ (layout.subformulas t)
+  decode-subformulas : subformulaCount (decode t) ≡ layout.subformulas t
+  unfolding subformulaCount decode
+  decode-subformulas = tab-length _ (layout.subformulas t)
 
   decode-edges : edgeCount (decode t) ≡ layout.edges t
   unfolding edgeCount decode
@@ -53,7 +54,7 @@ module _ (t : Text) where
       record {
         states = sym decode-size;
         edges = sym decode-edges;
-        subformulas = sym decode-depth;
+        subformulas = sym decode-subformulas;
         nodes = refl;
         owned = tab-length (layout.owner t) (layout.states t) ∙ sym decode-size;
         owners = λ s l. sym (tab-at (layout.owner t) (layout.states t) s 0 (omega (arith, decode-size)));
@@ -61,7 +62,7 @@ module _ (t : Text) where
         pairs = λ e l. sym (tab-at (pair t) (layout.edges t) e noEdge (omega (arith, decode-edges)));
         formulas =
             λ k l.
-            let inside : k < layout.subformulas t = omega (arith, decode-depth) in
+            let inside : k < layout.subformulas t = omega (arith, decode-subformulas) in
             rw (tab-at (λ j. parsing.formula (parsed j (layout.kind t j) (layout.left t j) (layout.right t j))) _ k (Atom 0) inside)
             (parsed-stands k (layout.kind t k) (layout.left t k) (layout.right t k) _ (formula-is _ (p .formulas k inside)));
       }
@@ -69,7 +70,7 @@ module _ (t : Text) where
 -- What a text that agrees with a job says of the job.
 module _ (t : Text) (J : Job) (a : Agrees t J) where
   pub agrees-decode : decode t ≡ J
-  unfolding decode size depth owner label edgeOf edgeCount subformula pair parsing.formula
+  unfolding decode size subformulaCount owner label edgeOf edgeCount subformula pair parsing.formula
   agrees-decode =
       λ i.
       record { structure = record { labels = labels i; edges = edges i }; formula = formula i; nodes = a .nodes i; owners = owners i }
@@ -138,7 +139,7 @@ module _ (t : Text) (J : Job) (a : Agrees t J) where
             at (formed-reads t 3 (subformulaAt t k) (sym (three-formed t k) ∙ p .further (layout.states t + layout.edges t + k) (omega arith)));
       }
 
-  agrees-formula : (k : ℕ) → k < depth J → formulaOk t k ≡ true
+  agrees-formula : (k : ℕ) → k < subformulaCount J → formulaOk t k ≡ true
   unfolding formulaOk isFormula
   agrees-formula k l = rw (stands-parsed k _ _ _ _ (a .formulas k l))
 
@@ -191,7 +192,7 @@ module _ (t : Text) (J : Job) (c : Carries t J) where
       sym (edge-numbers t e)
       ∙ rw (edge-place t (size J) e states-same) (reads-numbers t (edgeLine J e) (edgesFrom J + 11 * e) (c .edges e l))
 
-  formula-same : (k : ℕ) → k < depth J → layout.kind t k ∷ layout.left t k ∷ layout.right t k ∷ [] ≡ formulaLine J k
+  formula-same : (k : ℕ) → k < subformulaCount J → layout.kind t k ∷ layout.left t k ∷ layout.right t k ∷ [] ≡ formulaLine J k
   formula-same k l =
       sym (formula-numbers t k)
       ∙ rw (formula-place t (size J) (edgeCount J) k states-same edges-same)

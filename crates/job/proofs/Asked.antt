@@ -6,17 +6,21 @@ use mathlib.Core.Bool.{true, _&&_, _||_}
 use mathlib.Core.Logic.{_⊎_, inl, inr, ⊎-elim}
 use native.Mathlib.Numerals.{sub-one}
 use native.Mathlib.Omega.{arith}
-use lib.ListN.{length}
+use lib.ListN.{length, getD}
 use lib.Dec.{leb, ltb, eqb, eqb·suc-zero}
 use borrow.Author.Tests.{ltb-true, lt-ltb, leb-true, le-leb, eqb-true, eq-eqb}
 use Rattle.law.specs.Bounded.{first}
 use Rattle.law.proofs.Bool.{and-left, and-right, and-four, or-left, or-right, or-cases}
 use Rattle.law.proofs.Bounded.{all-intro, all-elim, any-intro, any-found}
-use Rattle.law.proofs.Lists.{every-elim, no-first, first-no}
-use Rattle.job.specs.Layout.{Text, formed, states, edges, subformulas, nodes, lengthOf, owner, label, source, target}
-use Rattle.job.specs.Questions.{Question, firstLine, ranges, textLength, lineFields, stateLines, edgeLines, edgesOut, formulaLines, headQuestions, lineQuestions, questions, asked, yes, passes, refusal, Accepted, within, inRanges, formedLine, stateOk, less, ascends, edgeOk, hasEdgeOut, formulaOk}
+use Rattle.law.specs.Lists.{every}
+use Rattle.law.proofs.Lists.{every-elim}
+use Rattle.text.specs.Field.{Text, formed}
+use Rattle.job.specs.Layout.{states, edges, subformulas, nodes, lengthOf, owner, label, source, target}
+use Rattle.job.specs.Question.{allYes}
+use Rattle.job.specs.Questions.{ofLineOne, ofLines, firstLine, ranges, textLength, lineFields, stateLines, edgeLines, edgesOut, formulaLines, headQuestions, lineQuestions, textQuestions, Accepted, within, inRanges, formedLine, stateOk, less, ascends, edgeOk, hasEdgeOut, formulaOk}
 use Rattle.job.specs.Job.{Edge}
 use Rattle.job.specs.Written.{Between, Less}
+use Rattle.job.proofs.QuestionLaws.{none-refused, all-answered-yes}
 
 -- the pair on edge line e
 unfoldable pub pair : Text → ℕ → Edge
@@ -53,26 +57,9 @@ between-within low high n b =
     simp (le-leb low n (b .above), le-leb n high (b .below))
 
 -- Accepted means that each question is answered yes.
-pub accepted-passes : (t : Text) → Accepted t → (q : Question) → passes t q ≡ true
-unfolding Accepted refusal questions headQuestions lineQuestions
-accepted-passes t a = at
-  where
-    nth : (i : ℕ) → i < length questions → passes t (lib.ListN.getD questions i firstLine) ≡ true
-    nth = every-elim (passes t) questions firstLine (no-first (passes t) questions a)
-
-    at : (q : Question) → passes t q ≡ true
-    at firstLine = nth 0 (omega arith)
-    at ranges = nth 1 (omega arith)
-    at textLength = nth 2 (omega arith)
-    at lineFields = nth 3 (omega arith)
-    at stateLines = nth 4 (omega arith)
-    at edgeLines = nth 5 (omega arith)
-    at edgesOut = nth 6 (omega arith)
-    at formulaLines = nth 7 (omega arith)
-
-pub passes-accepted : (t : Text) → ((q : Question) → passes t q ≡ true) → Accepted t
-unfolding Accepted refusal
-passes-accepted t h = first-no (passes t) questions h
+accepted-yes : (t : Text) → Accepted t → (i : ℕ) → i < length (textQuestions t) → getD (textQuestions t) i (firstLine t) .test ≡ true
+unfolding Accepted allYes
+accepted-yes t a = every-elim (λ q. q .test) (textQuestions t) (firstLine t) (all-answered-yes (textQuestions t) a)
 
 -- "compared by from, then by to"
 less-test : (a b c d : ℕ) → (ltb a c || (eqb a c && ltb b d)) ≡ true → (a < c) ⊎ ((a ≡ c) × (b < d))
@@ -142,56 +129,51 @@ module _ (t : Text) where
 
 -- All eight together, taken out and put back.
 pub accepted-passed : (t : Text) → Accepted t → Passed t
-unfolding passes asked yes inRanges
+unfolding textQuestions headQuestions lineQuestions firstLine ranges textLength lineFields stateLines edgeLines edgesOut formulaLines ofLineOne ofLines inRanges
 accepted-passed t a =
-    let has = accepted-passes t a in
-    let four = and-four (within 1 256 (states t)) (within 1 2048 (edges t)) (within 1 32 (subformulas t)) (within 1 8 (nodes t)) (has ranges) in
+    let yes = accepted-yes t a in
+    let one = yes 0 (omega arith) in
+    let four = and-four (within 1 256 (states t)) (within 1 2048 (edges t)) (within 1 32 (subformulas t)) (within 1 8 (nodes t)) (yes 1 (omega arith)) in
+    let lined = yes 4 (omega arith) in
+    let paired = yes 5 (omega arith) in
     record {
-      long = leb-true 21 (length t) (and-left (leb 21 (length t)) (formed t 0 4) (has firstLine));
-      head = and-right (leb 21 (length t)) (formed t 0 4) (has firstLine);
+      long = leb-true 21 (length t) (and-left (leb 21 (length t)) (formed t 0 4) one);
+      head = and-right (leb 21 (length t)) (formed t 0 4) one;
       inStates = within-between 1 256 (states t) (four .0);
       inEdges = within-between 1 2048 (edges t) (four .1);
       inSubformulas = within-between 1 32 (subformulas t) (four .2);
       inNodes = within-between 1 8 (nodes t) (four .3);
-      sized = eqb-true (length t) (lengthOf t) (has textLength);
-      further = all-elim (formedLine t) (states t + edges t + subformulas t) (has lineFields);
-      owners = λ s l. state-owner t s (all-elim (stateOk t) (states t) (has stateLines) s l);
-      labels = λ s l. state-label t s (all-elim (stateOk t) (states t) (has stateLines) s l);
-      ends = λ e l. edge-ends t e (all-elim (edgeOk t) (edges t) (has edgeLines) e l);
-      ascending = λ e l. edge-less t e (all-elim (edgeOk t) (edges t) (has edgeLines) (suc e) l);
-      edgeOut = λ s l. edge-out t s (all-elim (hasEdgeOut t) (states t) (has edgesOut) s l);
-      formulas = all-elim (formulaOk t) (subformulas t) (has formulaLines);
+      sized = eqb-true (length t) (lengthOf t) (yes 2 (omega arith));
+      further = all-elim (formedLine t) (states t + edges t + subformulas t) (yes 3 (omega arith));
+      owners = λ s l. state-owner t s (all-elim (stateOk t) (states t) lined s l);
+      labels = λ s l. state-label t s (all-elim (stateOk t) (states t) lined s l);
+      ends = λ e l. edge-ends t e (all-elim (edgeOk t) (edges t) paired e l);
+      ascending = λ e l. edge-less t e (all-elim (edgeOk t) (edges t) paired (suc e) l);
+      edgeOut = λ s l. edge-out t s (all-elim (hasEdgeOut t) (states t) (yes 6 (omega arith)) s l);
+      formulas = all-elim (formulaOk t) (subformulas t) (yes 7 (omega arith));
     }
 
 pub passed-accepted : (t : Text) → Passed t → Accepted t
-unfolding passes asked yes inRanges
-passed-accepted t p = passes-accepted t has
+unfolding Accepted allYes every textQuestions headQuestions lineQuestions firstLine ranges textLength lineFields stateLines edgeLines edgesOut formulaLines ofLineOne ofLines inRanges
+passed-accepted t p =
+    none-refused (textQuestions t)
+    (simp (
+      le-leb 21 (length t) (p .long),
+      p .head,
+      between-within 1 256 (states t) (p .inStates),
+      between-within 1 2048 (edges t) (p .inEdges),
+      between-within 1 32 (subformulas t) (p .inSubformulas),
+      between-within 1 8 (nodes t) (p .inNodes),
+      eq-eqb (length t) (lengthOf t) (p .sized),
+      all-intro (formedLine t) (states t + edges t + subformulas t) (p .further),
+      all-intro (stateOk t) (states t) (λ s l. state-ok t s (p .owners s l) (p .labels s l)),
+      all-intro (edgeOk t) (edges t) edgesOk,
+      all-intro (hasEdgeOut t) (states t) (λ s l. let (e, g, q) = p .edgeOut s l in out-edge t s e g q),
+      all-intro (formulaOk t) (subformulas t) (p .formulas),
+    ))
   where
     edgesOk : (e : ℕ) → e < edges t → edgeOk t e ≡ true
     edgesOk zero l = edge-ok t 0 (p .ends 0 l .0) (p .ends 0 l .1) (or-left (eqb 0 0) (ascends t 0) refl)
     edgesOk (suc e) l =
         edge-ok t (suc e) (p .ends (suc e) l .0) (p .ends (suc e) l .1)
         (or-right (eqb (suc e) 0) (ascends t (suc e)) (less-ascends t e (p .ascending e l)))
-
-    has : (q : Question) → passes t q ≡ true
-    has firstLine = simp (le-leb 21 (length t) (p .long), p .head)
-    has ranges =
-        simp (
-          between-within 1 256 (states t) (p .inStates),
-          between-within 1 2048 (edges t) (p .inEdges),
-          between-within 1 32 (subformulas t) (p .inSubformulas),
-          between-within 1 8 (nodes t) (p .inNodes),
-        )
-    has textLength = eq-eqb (length t) (lengthOf t) (p .sized)
-    has lineFields = all-intro (formedLine t) (states t + edges t + subformulas t) (p .further)
-    has stateLines = all-intro (stateOk t) (states t) (λ s l. state-ok t s (p .owners s l) (p .labels s l))
-    has edgeLines = all-intro (edgeOk t) (edges t) edgesOk
-    has edgesOut =
-        all-intro (hasEdgeOut t) (states t)
-        (λ s l. let (e, g, q) = p .edgeOut s l in out-edge t s e g q)
-    has formulaLines = all-intro (formulaOk t) (subformulas t) (p .formulas)
-
--- "at most 25,877"
-pub passed-length : (t : Text) → Passed t → length t ≤ 25877
-unfolding lengthOf
-passed-length t p = omega (arith, p .sized)

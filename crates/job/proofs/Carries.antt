@@ -6,17 +6,17 @@ use mathlib.Core.List.{List, [], _∷_, _++_, append-assoc, append-nil}
 use native.Mathlib.Omega.{arith}
 use lib.ListN.{length, take, drop, length-append, length-drop, take-append-drop}
 use lib.Seq.{take-all, drop-drop}
-use Rattle.job.specs.Layout.{Text}
-use Rattle.job.specs.Job.{Job, size, depth, owner, subformula}
-use Rattle.job.specs.Written.{line, label, edgeOf, edgeCount, fields, written, Operands, IsJob}
-use Rattle.job.specs.declared.subformula.Subformula.{Subformula}
-use Rattle.job.specs.declared.subformula.Subformula.the-variants.{Atom, Not, And, Ax, Ex, Au, Eu}
-use Rattle.job.proofs.Formula.{fields-length}
-use Rattle.job.proofs.Line.{Reads, Short, run, reads-line, line-reads, line-length, reads-run, run-reads, run-length}
+use Rattle.text.specs.Field.{Text}
+use Rattle.job.specs.Formula.{fields}
+use Rattle.job.specs.Job.{Job, size, subformulaCount, owner, subformula}
+use Rattle.text.specs.Decimal.{line, Short}
+use Rattle.job.specs.Written.{label, edgeOf, edgeCount, written, IsJob}
+use Rattle.job.proofs.Formula.{fields-length, fields-short}
+use Rattle.text.proofs.Line.{Reads, run, reads-line, line-reads, line-length, reads-run, run-reads, run-length}
 
 -- the numbers of each line of a job
 abbrev pub headLine : Job → List ℕ
-headLine J = size J ∷ edgeCount J ∷ depth J ∷ J .nodes ∷ []
+headLine J = size J ∷ edgeCount J ∷ subformulaCount J ∷ J .nodes ∷ []
 
 abbrev pub stateLine : Job → ℕ → List ℕ
 stateLine J s = owner J s ∷ label J s ∷ []
@@ -35,22 +35,11 @@ abbrev pub formulasFrom : Job → ℕ
 formulasFrom J = 21 + 11 * size J + 11 * edgeCount J
 
 pub record Carries (t : Text) (J : Job) : Type 0 where
-  pub sized : length t ≡ formulasFrom J + 16 * depth J
+  pub sized : length t ≡ formulasFrom J + 16 * subformulaCount J
   pub head : Reads t 0 (headLine J)
   pub states : (s : ℕ) → s < size J → Reads t (21 + 11 * s) (stateLine J s)
   pub edges : (e : ℕ) → e < edgeCount J → Reads t (edgesFrom J + 11 * e) (edgeLine J e)
-  pub formulas : (k : ℕ) → k < depth J → Reads t (formulasFrom J + 16 * k) (formulaLine J k)
-
--- Three numbers a line, each with at most five digits.
-fields-short : (k : ℕ) (f : Subformula) → k < 100000 → Operands k f → Short (fields f)
-unfolding fields Short Operands
-fields-short k (Atom a) l o = omega arith
-fields-short k (Not a) l o = omega arith
-fields-short k (And a b) l o = omega arith
-fields-short k (Ax a) l o = omega arith
-fields-short k (Ex a) l o = omega arith
-fields-short k (Au a b) l o = omega arith
-fields-short k (Eu a b) l o = omega arith
+  pub formulas : (k : ℕ) → k < subformulaCount J → Reads t (formulasFrom J + 16 * k) (formulaLine J k)
 
 -- what stands from a on, put together of what stands there and behind it
 part : (t x y : Text) (a n : ℕ) → take n (drop a t) ≡ x → drop (a + n) t ≡ y → drop a t ≡ x ++ y
@@ -63,18 +52,18 @@ module _ (J : Job) where
   pub carries-written : (t : Text) → Carries t J → t ≡ written J
   unfolding written
   carries-written t c =
-      let last : length (drop (formulasFrom J) t) ≤ 16 * depth J = simp length-drop (omega arith) in
+      let last : length (drop (formulasFrom J) t) ≤ 16 * subformulaCount J = simp length-drop (omega arith) in
       part t _ _ 0 21 (reads-line t (headLine J) 0 (omega arith) (c .head))
       (part t _ _ 21 (11 * size J) (reads-run 2 (stateLine J) (λ s. refl) t (size J) 21 (omega arith) (c .states))
       (part t _ _ (edgesFrom J) (11 * edgeCount J) (reads-run 2 (edgeLine J) (λ e. refl) t (edgeCount J) (edgesFrom J) (omega arith) (c .edges))
-      (sym (take-all (16 * depth J) (drop (formulasFrom J) t) last)
-      ∙ reads-run 3 (formulaLine J) three t (depth J) (formulasFrom J) (omega arith) (c .formulas))))
+      (sym (take-all (16 * subformulaCount J) (drop (formulasFrom J) t) last)
+      ∙ reads-run 3 (formulaLine J) three t (subformulaCount J) (formulasFrom J) (omega arith) (c .formulas))))
 
   pub written-carries : IsJob J → Carries (written J) J
   unfolding written Short
   written-carries j =
       record {
-        sized = simp length-append (omega (arith, head-length, states-length, edges-length, run-length 3 (formulaLine J) three (depth J)));
+        sized = simp length-append (omega (arith, head-length, states-length, edges-length, run-length 3 (formulaLine J) three (subformulaCount J)));
         head = line-reads (written J) (headLine J) 0 (S ++ (E ++ K)) refl (omega arith);
         states =
             λ s l.
@@ -89,7 +78,7 @@ module _ (J : Job) where
         formulas =
             λ k l.
             rw (← (append-nil K), ← (append-assoc S E (K ++ [])), ← (append-assoc H (S ++ E) (K ++ [])))
-            (run-reads 3 (formulaLine J) three (H ++ (S ++ E)) [] (depth J) (formulasFrom J) k
+            (run-reads 3 (formulaLine J) three (H ++ (S ++ E)) [] (subformulaCount J) (formulasFrom J) k
             (simp length-append (omega (arith, head-length, states-length, edges-length))) l
             (fields-short k (subformula (J .formula) k) (omega arith) (j .operands k l)));
       }
@@ -104,7 +93,7 @@ module _ (J : Job) where
       E = run (edgeLine J) (edgeCount J)
 
       K : Text
-      K = run (formulaLine J) (depth J)
+      K = run (formulaLine J) (subformulaCount J)
 
       head-length : length H ≡ 21
       head-length = line-length (headLine J)

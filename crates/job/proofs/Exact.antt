@@ -2,7 +2,7 @@
 -- job is accepted and decoded as that job. Assumes nothing.
 use mathlib.Core.Path.{_≡_, sym, subst}
 use mathlib.Core.Logic.{_↔_}
-use Rattle.job.specs.Layout.{Text}
+use Rattle.text.specs.Field.{Text}
 use Rattle.job.specs.Questions.{Accepted}
 use Rattle.job.specs.Job.{Job, decode}
 use Rattle.job.specs.Written.{written, IsJob}

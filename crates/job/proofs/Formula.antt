@@ -1,6 +1,6 @@
 -- The three numbers of a subformula line are read as a subformula exactly where they are the ones that it is written with and its
 -- operands are in range. Assumes nothing.
-use Prim.Native.Nat.{ℕ, _<_}
+use Prim.Native.Nat.{ℕ, _<_, _≤_}
 use mathlib.Core.Path.{_≡_, refl, sym, _∙_, ap, subst}
 use mathlib.Core.Bool.{Bool, true, false, cond, _&&_, true≢false}
 use mathlib.Core.List.{[], _∷_}
@@ -9,12 +9,14 @@ use lib.ListN.{length, getD}
 use lib.Dec.{leb, ltb, eqb}
 use borrow.Author.Tests.{ltb-true, lt-ltb, leb-true, le-leb, eqb-true}
 use Rattle.law.proofs.Bool.{split, cond-true, cond-false, and-left, and-right}
-use Rattle.job.specs.Formula.{atomic, unary, binary, parsed, isFormula, formula}
-use Rattle.job.specs.Written.{fields, Operands}
+use Rattle.job.specs.Formula.{atomic, unary, binary, parsed, fields, isFormula, formula}
+use Rattle.job.specs.Rule.{ruleOf, InRange, Valued}
+use Rattle.job.specs.Written.{Operands}
 use Rattle.job.specs.declared.subformula.Subformula.{Subformula}
 use Rattle.job.specs.declared.subformula.Subformula.the-variants.{Atom, Not, And, Ax, Ex, Au, Eu}
 use Rattle.job.specs.declared.subformula.Parsed.{Parsed}
 use Rattle.job.specs.declared.subformula.Parsed.the-variants.{Formula, Malformed}
+use Rattle.text.specs.Decimal.{Short}
 
 -- These numbers are what f is written with, and f can stand at place k.
 abbrev pub Stands : ℕ → ℕ → ℕ → ℕ → Subformula → Type 0
@@ -54,16 +56,19 @@ module _ (k kind a b : ℕ) (f : Subformula) where
       (rw (q, w), o (ltb-true a k (and-left (ltb a k) (ltb b k) test), ltb-true b k (and-right (ltb a k) (ltb b k) test)))
 
   pub parsed-stands : parsed k kind a b ≡ Formula f → Stands k kind a b f
-  unfolding parsed atomic unary fields Operands
+  unfolding parsed atomic unary fields InRange
   parsed-stands e =
       rung kind 1 _ _ f e (one-stands 1 (Atom a) (leb a 15) refl (leb-true a 15)) λ e.
       rung kind 2 _ _ f e (one-stands 2 (Not a) (ltb a k) refl (ltb-true a k)) λ e.
       rung kind 3 _ _ f e (two-stands 3 (And a b) refl (λ o. o)) λ e.
       rung kind 4 _ _ f e (one-stands 4 (Ax a) (ltb a k) refl (ltb-true a k)) λ e.
       rung kind 5 _ _ f e (one-stands 5 (Ex a) (ltb a k) refl (ltb-true a k)) λ e.
-      rung kind 6 _ _ f e (two-stands 6 (Au a b) refl (λ o. o)) λ e.
-      rung kind 7 _ _ f e (two-stands 7 (Eu a b) refl (λ o. o)) λ e.
+      rung kind 6 _ _ f e (two-stands 6 (Au a b) refl until) λ e.
+      rung kind 7 _ _ f e (two-stands 7 (Eu a b) refl until) λ e.
       no-formula f e
+    where
+      until : (a < k) × (b < k) → (b < k) × (a < k) × (1 ≤ 1)
+      until (l, r) = (r, l, omega arith)
 
 -- Back: the numbers of f pass its rung.
 pub fields-length : (f : Subformula) → length (fields f) ≡ 3
@@ -76,20 +81,58 @@ fields-length (Ex a) = refl
 fields-length (Au a b) = refl
 fields-length (Eu a b) = refl
 
+-- each with at most five digits
+pub fields-short : (k : ℕ) (f : Subformula) → k < 100000 → Operands k f → Short (fields f)
+unfolding fields Short InRange
+fields-short k (Atom a) l o = omega arith
+fields-short k (Not a) l o = omega arith
+fields-short k (And a b) l o = omega arith
+fields-short k (Ax a) l o = omega arith
+fields-short k (Ex a) l o = omega arith
+fields-short k (Au a b) l o = omega arith
+fields-short k (Eu a b) l o = omega arith
+
+-- and each below every bound that the atoms and the subformulas before it are below
+pub fields-below :
+    (k b : ℕ) (f : Subformula)
+    → 16 ≤ b
+    → k ≤ b
+    → Operands k f
+    → (getD (fields f) 0 0 < b) × (getD (fields f) 1 0 < b) × (getD (fields f) 2 0 < b)
+unfolding fields InRange
+fields-below k b (Atom a) w l o = (omega arith, omega arith, omega arith)
+fields-below k b (Not a) w l o = (omega arith, omega arith, omega arith)
+fields-below k b (And c d) w l o = (omega arith, omega arith, omega arith)
+fields-below k b (Ax a) w l o = (omega arith, omega arith, omega arith)
+fields-below k b (Ex a) w l o = (omega arith, omega arith, omega arith)
+fields-below k b (Au c d) w l o = (omega arith, omega arith, omega arith)
+fields-below k b (Eu c d) w l o = (omega arith, omega arith, omega arith)
+
 fields-parsed : (k : ℕ) (f : Subformula) → Operands k f
     → parsed k (getD (fields f) 0 0) (getD (fields f) 1 0) (getD (fields f) 2 0) ≡ Formula f
-unfolding parsed atomic unary binary fields Operands
+unfolding parsed atomic unary binary fields InRange
 fields-parsed k (Atom a) o = simp (le-leb a 15 o)
 fields-parsed k (Not a) o = simp (lt-ltb a k o)
 fields-parsed k (And a b) o = simp (lt-ltb a k (o .0), lt-ltb b k (o .1))
 fields-parsed k (Ax a) o = simp (lt-ltb a k o)
 fields-parsed k (Ex a) o = simp (lt-ltb a k o)
-fields-parsed k (Au a b) o = simp (lt-ltb a k (o .0), lt-ltb b k (o .1))
-fields-parsed k (Eu a b) o = simp (lt-ltb a k (o .0), lt-ltb b k (o .1))
+fields-parsed k (Au a b) o = simp (lt-ltb a k (o .1), lt-ltb b k (o .0))
+fields-parsed k (Eu a b) o = simp (lt-ltb a k (o .1), lt-ltb b k (o .0))
 
 pub stands-parsed : (k kind a b : ℕ) (f : Subformula) → Stands k kind a b f → parsed k kind a b ≡ Formula f
 stands-parsed k kind a b f (e, o) =
     rw (ap (λ l. getD l 0 0) e, ap (λ l. getD l 1 0) e, ap (λ l. getD l 2 0) e) (fields-parsed k f o)
+
+-- Whatever its kind, the value of the sets of its rule is 0 or 1.
+pub rule-valued : (f : Subformula) → Valued (ruleOf f)
+unfolding Valued
+rule-valued (Atom j) = tt
+rule-valued (Not a) = tt
+rule-valued (And a b) = tt
+rule-valued (Ax a) = tt
+rule-valued (Ex a) = tt
+rule-valued (Au a b) = omega arith
+rule-valued (Eu a b) = omega arith
 
 -- A line that is not malformed has its formula.
 pub formula-is : (p : Parsed) → isFormula p ≡ true → p ≡ Formula (formula p)

@@ -1,50 +1,33 @@
--- Laws of line 1 and the length, questions 1 to 3: a line's fields one at a time, and what `headAnswer` is in each case.
--- Assumes nothing.
-use Prim.Native.Nat.{ℕ, suc, _+_, _-_, _*_, _<_, _≤_}
+-- Laws of line 1 and the length, questions 1 to 3: what `headAnswer` is in each case. Assumes nothing.
+use Prim.Native.Nat.{ℕ, _+_, _-_, _*_, _<_, _≤_}
 use mathlib.Core.Path.{_≡_, refl, sym, _∙_}
 use mathlib.Core.Bool.{true, false, _&&_}
 use mathlib.Core.List.{List, [], _∷_}
 use native.Mathlib.Omega.{arith}
-use borrow.Author.Tests.{leb-true, le-leb, lt-leb, eq-eqb, ne-eqb, eqb-true, eqb-false}
+use borrow.Author.Tests.{le-leb, lt-leb, eq-eqb, ne-eqb, eqb-true}
 use lib.ListN.{length, getD}
-use lib.Dec.{leb, eqb, lit≤}
-use Rattle.law.proofs.Bool.{split, and-left, and-right}
+use lib.Dec.{leb, lit≤}
+use Rattle.law.proofs.Bool.{split, and-four}
 use Rattle.law.proofs.Bounded.{by-order}
 use Rattle.job.proofs.Asked.{within-between}
-use Rattle.law.specs.Lists.{firstNo}
-use Rattle.job.specs.Field.{field, wellFormed}
-use Rattle.job.specs.Layout.{Text, formed, states, edges, subformulas, nodes, lengthOf, stateAt, subformulaAt, lines, fieldsOf, lineAt}
-use Rattle.job.specs.Questions.{firstLine, ranges, textLength, numberOf, headQuestions, yes, noLine, asked, passes, within, inRanges}
+use Rattle.law.specs.Lists.{every}
+use Rattle.law.proofs.Lists.{every-elim}
+use Rattle.job.proofs.QuestionLaws.{refused-not-accepted, answered-yes, answered-no, answered-none, accepted-none, accepted-own, none-refused, all-answered-yes}
+use Rattle.text.specs.Field.{Text, formed}
+use Rattle.job.specs.Layout.{states, edges, subformulas, nodes, lengthOf, stateAt, subformulaAt, lines, fieldsOf, lineAt}
+use Rattle.job.specs.Question.{allYes, refusal, answered}
+use Rattle.job.specs.Questions.{ofLineOne, firstLine, ranges, textLength, headQuestions, within, inRanges}
 use Rattle.job.specs.Answer.{accepted, refused}
-use Rattle.job.specs.Read.{unless, header, headAnswer, readTold, hasLine, lineStart, lineLength}
-use Rattle.job.specs.declared.field.Field.the-variants.{Number, Malformed}
+use Rattle.job.specs.Read.{header, headAnswer, readTold, hasLine, lineStart, lineLength}
 use Rattle.job.specs.Leaves.{Fits}
 use Rattle.job.specs.declared.reader.Header.{Header}
 use Rattle.job.specs.declared.reader.Reading.the-variants.{Accepted}
 
--- A line of n fields at this offset, after i of them: one field more, none left.
-module _ (t : Text) (at n i : ℕ) where
-  pub formed-malformed : i < n → field t (at + 5 * i) ≡ Malformed → formed t (at + 5 * i) (n - i) ≡ false
-  unfolding formed wellFormed
-  formed-malformed l e = let s : n - i ≡ suc (n - (i + 1)) = omega arith in rw (s, e)
-
-  pub formed-field :
-      i < n → (v : ℕ) → field t (at + 5 * i) ≡ Number v → formed t (at + 5 * i) (n - i) ≡ formed t (at + 5 * (i + 1)) (n - (i + 1))
-  unfolding formed wellFormed
-  formed-field l v e =
-      let s : n - i ≡ suc (n - (i + 1)) = omega arith in
-      let o : at + 5 * i + 5 ≡ at + 5 * (i + 1) = omega arith in
-      rw (s, e, o)
-
-pub formed-end : (t : Text) (at : ℕ) → formed t at 0 ≡ eqb (getD t at 0) 10
-unfolding formed
-formed-end t at = refl
-
 -- The head's answer in each case.
 module _ (t : Text) where
   first-line-no : (leb 21 (length t) && formed t 0 4) ≡ false → headAnswer t ≡ refused 1 1 4
-  unfolding headAnswer headQuestions firstNo passes asked yes unless numberOf noLine
-  first-line-no e = simp e
+  unfolding headAnswer headQuestions firstLine ofLineOne
+  first-line-no e = answered-no (firstLine t) _ 4 (header t) e
 
   pub head-short : length t < 21 → headAnswer t ≡ refused 1 1 4
   head-short l = first-line-no (simp (lt-leb 21 (length t) l))
@@ -53,81 +36,44 @@ module _ (t : Text) where
   head-malformed l f = first-line-no (simp (le-leb 21 (length t) l, f))
 
   module _ (l : 21 ≤ length t) (f : formed t 0 4 ≡ true) where
+    first-line-yes : headAnswer t ≡ answered (ranges t ∷ textLength t ∷ []) 4 (header t)
+    unfolding headAnswer headQuestions firstLine ofLineOne
+    first-line-yes = answered-yes (firstLine t) _ 4 (header t) (simp (le-leb 21 (length t) l, f))
+
     pub head-out-of-range : inRanges (states t) (edges t) (subformulas t) (nodes t) ≡ false → headAnswer t ≡ refused 2 1 4
-    unfolding headAnswer headQuestions firstNo passes asked yes unless numberOf noLine
-    head-out-of-range r = simp (le-leb 21 (length t) l, f, r)
+    unfolding ranges ofLineOne
+    head-out-of-range r = first-line-yes ∙ answered-no (ranges t) _ 4 (header t) r
 
     module _ (r : inRanges (states t) (edges t) (subformulas t) (nodes t) ≡ true) where
+      ranges-yes : headAnswer t ≡ answered (textLength t ∷ []) 4 (header t)
+      unfolding ranges ofLineOne
+      ranges-yes = first-line-yes ∙ answered-yes (ranges t) _ 4 (header t) r
+
       pub head-wrong-length : (length t ≡ lengthOf t → ⊥) → headAnswer t ≡ refused 3 1 4
-      unfolding headAnswer headQuestions firstNo passes asked yes unless numberOf noLine
-      head-wrong-length n = simp (le-leb 21 (length t) l, f, r, ne-eqb (length t) (lengthOf t) n)
+      unfolding textLength ofLineOne
+      head-wrong-length n = ranges-yes ∙ answered-no (textLength t) [] 4 (header t) (ne-eqb (length t) (lengthOf t) n)
 
       pub head-accepted : length t ≡ lengthOf t → headAnswer t ≡ accepted (header t)
-      unfolding headAnswer headQuestions firstNo passes asked yes unless numberOf noLine
-      head-accepted e = simp (le-leb 21 (length t) l, f, r, eq-eqb (length t) (lengthOf t) e)
-
-pub refused-not-accepted : (own : List ℕ) (number line others : ℕ) → accepted own ≡ refused number line others → ⊥
-refused-not-accepted own number line others e = let z : _≡_ {A = ℕ} 0 1 = cc in omega arith
-
--- Accepted at the head means that each of the three questions is answered yes.
-module _ (t : Text) (own : List ℕ) (told : accepted own ≡ headAnswer t) where
-  pub head-line-formed : passes t firstLine ≡ true
-  unfolding passes asked yes
-  head-line-formed =
-      split (leb 21 (length t) && formed t 0 4) (λ e. e)
-      (λ e. absurd (refused-not-accepted own 1 1 4 (told ∙ first-line-no t e)))
-
-  head-length : 21 ≤ length t
-  unfolding passes asked yes
-  head-length = leb-true 21 (length t) (and-left (leb 21 (length t)) (formed t 0 4) head-line-formed)
-
-  head-formed : formed t 0 4 ≡ true
-  unfolding passes asked yes
-  head-formed = and-right (leb 21 (length t)) (formed t 0 4) head-line-formed
-
-  pub head-in-ranges : passes t ranges ≡ true
-  unfolding passes asked yes
-  head-in-ranges =
-      split (inRanges (states t) (edges t) (subformulas t) (nodes t)) (λ e. e)
-      (λ e. absurd (refused-not-accepted own 2 1 4 (told ∙ head-out-of-range t head-length head-formed e)))
-
-  pub head-length-right : passes t textLength ≡ true
-  unfolding passes asked yes
-  head-length-right =
-      split (eqb (length t) (lengthOf t)) (λ e. e)
-      (λ e.
-      absurd
-      (refused-not-accepted own 3 1 4
-      (told ∙ head-wrong-length t head-length head-formed head-in-ranges (eqb-false (length t) (lengthOf t) e))))
-
-  pub head-own : own ≡ header t
-  unfolding passes asked yes
-  head-own =
-      let e =
-      told ∙ head-accepted t head-length head-formed head-in-ranges (eqb-true (length t) (lengthOf t) head-length-right)
-      in
-      cc
+      unfolding textLength ofLineOne refusal
+      head-accepted e =
+          ranges-yes ∙ answered-yes (textLength t) [] 4 (header t) (eq-eqb (length t) (lengthOf t) e) ∙ answered-none [] 4 (header t) refl
 
 pub head-fits : (t : Text) (h : Header) → readTold (Accepted h) ≡ headAnswer t → Fits t h
-unfolding readTold header passes asked yes inRanges lengthOf
+unfolding readTold header headAnswer headQuestions allYes every firstLine ranges textLength ofLineOne inRanges lengthOf
 head-fits t h told =
     let own : List ℕ = h .states ∷ h .edges ∷ h .subformulas ∷ h .nodes ∷ [] in
-    let same = head-own t own told in
+    let same = accepted-own (headQuestions t) 4 (header t) own told in
     let es : states t ≡ h .states = cc in
     let ee : edges t ≡ h .edges = cc in
     let ek : subformulas t ≡ h .subformulas = cc in
     let en : nodes t ≡ h .nodes = cc in
-    let ws = within 1 256 (states t) in
-    let we = within 1 2048 (edges t) in
-    let wk = within 1 32 (subformulas t) in
-    let wn = within 1 8 (nodes t) in
-    let all = head-in-ranges t own told in
-    let abc = and-left (ws && we && wk) wn all in
-    let ab = and-left (ws && we) wk abc in
-    let bs = within-between 1 256 (states t) (and-left ws we ab) in
-    let be = within-between 1 2048 (edges t) (and-right ws we ab) in
-    let bk = within-between 1 32 (subformulas t) (and-right (ws && we) wk abc) in
-    let bn = within-between 1 8 (nodes t) (and-right (ws && we && wk) wn all) in
+    let yes = all-answered-yes (headQuestions t) (accepted-none (headQuestions t) 4 (header t) own told) in
+    let nth : (i : ℕ) → i < 3 → getD (headQuestions t) i (firstLine t) .test ≡ true = every-elim (λ q. q .test) (headQuestions t) (firstLine t) yes in
+    let four = and-four (within 1 256 (states t)) (within 1 2048 (edges t)) (within 1 32 (subformulas t)) (within 1 8 (nodes t)) (nth 1 (omega arith)) in
+    let bs = within-between 1 256 (states t) (four .0) in
+    let be = within-between 1 2048 (edges t) (four .1) in
+    let bk = within-between 1 32 (subformulas t) (four .2) in
+    let bn = within-between 1 8 (nodes t) (four .3) in
     record {
       states-are = es;
       edges-are = ee;
@@ -141,10 +87,8 @@ head-fits t h told =
       subformulas-to = omega arith;
       nodes-from = omega arith;
       nodes-to = omega arith;
-      sized = omega (arith, eqb-true (length t) (lengthOf t) (head-length-right t own told));
-      line-formed = head-line-formed t own told;
-      in-ranges = all;
-      length-right = head-length-right t own told;
+      sized = omega (arith, eqb-true (length t) (lengthOf t) (nth 2 (omega arith)));
+      head-yes = yes;
     }
 
 -- Offset and number of fields of line 1, of a line of two fields and of a line of three.
@@ -184,17 +128,14 @@ fields-few t l =
 
 -- The line asked for, where the head accepts and where it does not.
 pub line-refused : (t : Text) (l number line : ℕ) → refused number line 4 ≡ headAnswer t → hasLine t l ≡ false
-unfolding headAnswer headQuestions firstNo unless hasLine
+unfolding headAnswer hasLine
 line-refused t l number line told =
-    split (passes t firstLine)
-    (λ a.
-    split (passes t ranges)
-    (λ b.
-    split (passes t textLength)
-    (λ c. absurd (refused-not-accepted (header t) number line 4 (sym (told ∙ simp (a, b, c)))))
-    (λ c. simp (a, b, c)))
-    (λ b. simp (a, b)))
-    (λ a. simp a)
+    split (allYes (headQuestions t))
+    (λ yes.
+    absurd
+    (refused-not-accepted (header t) number line 4
+    (sym (told ∙ answered-none (headQuestions t) 4 (header t) (none-refused (headQuestions t) yes)))))
+    (λ no. simp no)
 
 -- no line: the part 0, 0
 pub line-none : (t : Text) (l : ℕ) → hasLine t l ≡ false → ((0 ≡ lineStart t l) × (0 ≡ lineLength t l)) × (0 + 0 ≤ length t)
@@ -204,13 +145,13 @@ line-none t l e = ((simp e, simp e), omega arith)
 module _ (t : Text) (h : Header) (fits : Fits t h) (l : ℕ) where
   pub line-zero : l ≡ 0 → hasLine t l ≡ false
   unfolding hasLine
-  line-zero z = simp (fits .line-formed, fits .in-ranges, fits .length-right, z)
+  line-zero z = simp (fits .head-yes, z)
 
   pub line-past : 1 + (h .states + h .edges) + h .subformulas < l → hasLine t l ≡ false
   unfolding hasLine lines
   line-past g =
       let past : 1 + states t + edges t + subformulas t < l = omega arith in
-      simp (fits .line-formed, fits .in-ranges, fits .length-right, le-leb 1 l (omega arith), lt-leb l (1 + states t + edges t + subformulas t) past)
+      simp (fits .head-yes, le-leb 1 l (omega arith), lt-leb l (1 + states t + edges t + subformulas t) past)
 
   module _ (from : 1 ≤ l) (to : l ≤ 1 + (h .states + h .edges) + h .subformulas) where
     line-there : hasLine t l ≡ true
@@ -218,9 +159,7 @@ module _ (t : Text) (h : Header) (fits : Fits t h) (l : ℕ) where
     line-there =
         let there : l ≤ 1 + states t + edges t + subformulas t = omega arith in
         simp (
-          fits .line-formed,
-          fits .in-ranges,
-          fits .length-right,
+          fits .head-yes,
           le-leb 1 l from,
           le-leb l (1 + states t + edges t + subformulas t) there,
         )

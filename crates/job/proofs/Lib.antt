@@ -1,13 +1,12 @@
-pub mod FieldLaws
+pub mod QuestionLaws
 pub mod LayoutLaws
 pub mod Successors
 pub mod Asked
-pub mod Decimal
 pub mod Formula
-pub mod Line
 pub mod Carries
 pub mod Places
 pub mod Agrees
 pub mod Exact
 pub mod ReaderLaws
+pub mod RuleLaws
 pub mod ReadLaws

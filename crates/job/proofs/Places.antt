@@ -5,10 +5,11 @@ use mathlib.Core.Path.{_≡_, refl, _∙_, ap, ap₂, subst}
 use mathlib.Core.List.{[], _∷_}
 use native.Mathlib.Omega.{arith}
 use Rattle.law.proofs.Bounded.{by-order}
-use Rattle.job.specs.Layout.{Text, numberAt, formed, states, edges, subformulas, nodes, stateAt, edgeAt, subformulaAt, owner, label, source, target, kind, left, right, fieldsOf, lineAt}
+use Rattle.text.specs.Field.{Text, numberAt, formed}
+use Rattle.job.specs.Layout.{states, edges, subformulas, nodes, stateAt, edgeAt, subformulaAt, owner, label, source, target, kind, left, right, fieldsOf, lineAt}
 use Rattle.job.specs.Questions.{formedLine}
 use Rattle.job.proofs.LayoutLaws.{fields-two, line-pair, fields-three, line-triple}
-use Rattle.job.proofs.Line.{numbersAt}
+use Rattle.text.proofs.Line.{numbersAt}
 
 -- What holds of each state line, of each edge line and of each subformula line holds of every line behind line 1.
 pub by-line : (P : ℕ → Type 0) (S E K : ℕ)

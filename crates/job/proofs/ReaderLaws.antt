@@ -13,7 +13,8 @@ use lib.Seq.{getD-set-same, getD-set-other}
 use Rattle.law.specs.Bounded.{first, any}
 use Rattle.law.proofs.Bool.{and-no-left, and-no-right, or-true, or-false}
 use Rattle.law.proofs.Bounded.{by-equal, any-suc}
-use Rattle.job.specs.Layout.{Text, numberAt, states, edges, nodes, stateAt, edgeAt, subformulaAt, owner, label, source, target, kind, left, right}
+use Rattle.text.specs.Field.{Text, numberAt}
+use Rattle.job.specs.Layout.{states, edges, nodes, stateAt, edgeAt, subformulaAt, owner, label, source, target, kind, left, right}
 use Rattle.job.specs.Formula.{parsed, isFormula}
 use Rattle.job.specs.Questions.{stateOk, less, ascends, edgeOk, formulaOk}
 use Rattle.job.specs.Leaves.{Fits}

@@ -1,11 +1,15 @@
+-- The kinds, named one by one here, in `src/subformula.rt` and `src/rule.rt`, and where `meaning` of ctl says what they mean.
 -- Document 01, "Kinds: 1 atom a; 2 not a; 3 a and b; 4 AX a; 5 EX a; 6 A(a U b); 7 E(a U b)": the line of subformula k as an
 -- enum case with its operands, or malformed. "For kind 1, a is 0 to 15. For the others a is a smaller subformula number. For
 -- kinds 3, 6 and 7 so is b; elsewhere b is 0." Assumes nothing.
 use Prim.Native.Nat.{ℕ}
 use mathlib.Core.Bool.{Bool, true, false, cond, _&&_}
+use mathlib.Core.List.{List, [], _∷_}
 use lib.Dec.{leb, ltb, eqb}
 use Rattle.job.specs.declared.subformula.Subformula.{Subformula}
 use Rattle.job.specs.declared.subformula.Subformula.the-variants.{Atom, Not, And, Ax, Ex, Au, Eu}
+use Rattle.job.specs.declared.rule.Rule.{Rule}
+use Rattle.job.specs.declared.rule.Rule.the-variants as rule
 use Rattle.job.specs.declared.subformula.Parsed.{Parsed}
 use Rattle.job.specs.declared.subformula.Parsed.the-variants.{Formula, Malformed}
 
@@ -31,6 +35,16 @@ parsed k kind a b =
     (cond (eqb kind 6) (binary k a b (Au a b))
     (cond (eqb kind 7) (binary k a b (Eu a b)) Malformed))))))
 
+-- The numbers of its line, "kind, a, b".
+unfoldable pub fields : Subformula → List ℕ
+fields (Atom a) = 1 ∷ a ∷ 0 ∷ []
+fields (Not a) = 2 ∷ a ∷ 0 ∷ []
+fields (And a b) = 3 ∷ a ∷ b ∷ []
+fields (Ax a) = 4 ∷ a ∷ 0 ∷ []
+fields (Ex a) = 5 ∷ a ∷ 0 ∷ []
+fields (Au a b) = 6 ∷ a ∷ b ∷ []
+fields (Eu a b) = 7 ∷ a ∷ b ∷ []
+
 unfoldable pub isFormula : Parsed → Bool
 isFormula (Formula f) = true
 isFormula Malformed = false
@@ -40,12 +54,22 @@ unfoldable pub formula : Parsed → Subformula
 formula (Formula f) = f
 formula Malformed = Atom 0
 
--- "Kinds 4 to 7 are temporal."
-unfoldable pub temporal : Subformula → Bool
-temporal (Atom a) = false
-temporal (Not a) = false
-temporal (And a b) = false
-temporal (Ax a) = true
-temporal (Ex a) = true
-temporal (Au a b) = true
-temporal (Eu a b) = true
+-- What a step does for it.
+abbrev pub ruleOf : Subformula → Rule
+ruleOf (Atom j) = rule.Atom j
+ruleOf (Not a) = rule.Not a
+ruleOf (And a b) = rule.And a b
+ruleOf (Ax a) = rule.Next true a
+ruleOf (Ex a) = rule.Next false a
+ruleOf (Au a b) = rule.Sets true b a 1
+ruleOf (Eu a b) = rule.Sets false b a 1
+
+-- The same with its operands renamed; an atom keeps its number.
+unfoldable pub renamed : (ℕ → ℕ) → Subformula → Subformula
+renamed ρ (Atom j) = Atom j
+renamed ρ (Not a) = Not (ρ a)
+renamed ρ (And a b) = And (ρ a) (ρ b)
+renamed ρ (Ax a) = Ax (ρ a)
+renamed ρ (Ex a) = Ex (ρ a)
+renamed ρ (Au a b) = Au (ρ a) (ρ b)
+renamed ρ (Eu a b) = Eu (ρ a) (ρ b)

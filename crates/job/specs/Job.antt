@@ -6,7 +6,7 @@ use mathlib.Core.List.{List}
 use lib.ListN.{length, getD}
 use lib.Dec.{eqb}
 use Rattle.law.specs.Lists.{tab, every, some}
-use Rattle.job.specs.Layout.{Text}
+use Rattle.text.specs.Field.{Text}
 use Rattle.job.specs.Layout as layout
 use Rattle.job.specs.Formula as formula
 use Rattle.job.specs.declared.subformula.Subformula.{Subformula}
@@ -54,8 +54,8 @@ over M exists s X = some (λ e. eqb (e .from) s && X (e .to)) (M .edges)
 unfoldable pub size : Job → ℕ
 size J = length (J .structure .labels)
 
-unfoldable pub depth : Job → ℕ
-depth J = length (J .formula)
+unfoldable pub subformulaCount : Job → ℕ
+subformulaCount J = length (J .formula)
 
 unfoldable pub owner : Job → ℕ → ℕ
 owner J s = getD (J .owners) s 0

@@ -1,24 +1,10 @@
 -- Document 01, "Job text": the lines of a text, where each stands, and the numbers on it. Every function here is of any
 -- bytes at all; what it gives means what its name says where the questions of `Questions` are answered yes.
 -- Assumes nothing.
-use Prim.Native.Nat.{ℕ, zero, suc, _+_, _-_, _*_}
-use mathlib.Core.Bool.{Bool, cond, _&&_}
-use mathlib.Core.List.{List}
-use lib.ListN.{getD}
-use lib.Dec.{leb, eqb}
-use Rattle.job.specs.Field.{field, wellFormed, value}
-
--- The bytes passed as a job.
-abbrev pub Text : Type 0
-Text = List ℕ
-
-unfoldable pub numberAt : Text → ℕ → ℕ
-numberAt t at = value (field t at)
-
--- "A line is its fields and byte 10": n well-formed fields stand at this offset, and byte 10 behind them.
-unfoldable pub formed : Text → ℕ → ℕ → Bool
-formed t at zero = eqb (getD t at 0) 10
-formed t at (suc n) = wellFormed (field t at) && formed t (at + 5) n
+use Prim.Native.Nat.{ℕ, _+_, _-_, _*_}
+use mathlib.Core.Bool.{cond}
+use lib.Dec.{leb}
+use Rattle.text.specs.Field.{Text, numberAt}
 
 -- "Line 1: S states, E edges, K subformulas, N nodes."
 unfoldable pub states : Text → ℕ

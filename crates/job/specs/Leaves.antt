@@ -2,19 +2,12 @@
 use Prim.Native.Nat.{ℕ, _+_, _*_, _≤_, _<_}
 use mathlib.Core.Path.{_≡_}
 use mathlib.Core.Bool.{true}
-use mathlib.Core.List.{List}
-use lib.ListN.{length, getD}
-use lib.Seq.{slice}
-use Rattle.job.specs.Field.{columns, field}
-use Rattle.job.specs.Layout.{Text, states, edges, subformulas, nodes, source}
-use Rattle.job.specs.Questions.{firstLine, ranges, textLength, passes}
+use lib.ListN.{length}
+use Rattle.text.specs.Field.{Text}
+use Rattle.job.specs.Layout.{states, edges, subformulas, nodes, source}
+use Rattle.job.specs.Question.{allYes}
+use Rattle.job.specs.Questions.{headQuestions}
 use Rattle.job.specs.declared.reader.Header.{Header}
-
--- r spaces stand before anything else in the field at this offset.
-pub record Skipped (t : List ℕ) (at r : ℕ) : Type 0 where
-  pub within : r ≤ 5
-  pub rest : field t at ≡ columns (slice (at + r) (at + 5) t)
-  pub stops : r < 5 → getD t (at + r) 0 ≡ 32 → ⊥
 
 -- Questions 1 to 3 are answered yes, and h has the numbers of line 1.
 pub record Fits (t : Text) (h : Header) : Type 0 where
@@ -31,9 +24,7 @@ pub record Fits (t : Text) (h : Header) : Type 0 where
   pub nodes-from : 1 ≤ h .nodes
   pub nodes-to : h .nodes ≤ 8
   pub sized : length t ≡ 21 + 11 * h .states + 11 * h .edges + 16 * h .subformulas
-  pub line-formed : passes t firstLine ≡ true
-  pub in-ranges : passes t ranges ≡ true
-  pub length-right : passes t textLength ≡ true
+  pub head-yes : allYes (headQuestions t) ≡ true
 
 -- Each edge line starts from one of at most 256 states.
 abbrev pub SourcesInside : Text → Type 0

@@ -1,9 +1,10 @@
-pub mod Field
 pub mod Layout
 pub mod Formula
-pub mod Questions
 pub mod Answer
+pub mod Question
+pub mod Questions
 pub mod Read
 pub mod Job
+pub mod Rule
 pub mod Written
 pub mod Leaves

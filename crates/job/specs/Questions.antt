@@ -5,52 +5,22 @@ use Prim.Native.Nat.{ℕ, _+_, _-_}
 use mathlib.Core.Path.{_≡_}
 use mathlib.Core.Bool.{Bool, not, _&&_, _||_}
 use mathlib.Core.List.{List, [], _∷_, _++_}
-use mathlib.Core.Option.{Option}
 use mathlib.Core.Option as opt
 use lib.ListN.{length}
 use lib.Dec.{leb, ltb, eqb}
 use Rattle.law.specs.Bounded.{first, all, any}
-use Rattle.law.specs.Lists.{firstNo}
-use Rattle.job.specs.Layout.{Text, formed, states, edges, subformulas, nodes, lengthOf, owner, label, source, target, kind, left, right, fieldsOf, lineAt}
+use Rattle.text.specs.Field.{Text, formed}
+use Rattle.job.specs.Layout.{states, edges, subformulas, nodes, lengthOf, owner, label, source, target, kind, left, right, fieldsOf, lineAt}
 use Rattle.job.specs.Formula.{parsed, isFormula}
+use Rattle.job.specs.Question.{Question, refusal}
 
-pub data Question : Type 0 where
-  firstLine ranges textLength lineFields stateLines edgeLines edgesOut formulaLines : Question
+-- About line 1.
+unfoldable pub ofLineOne : ℕ → Bool → Question
+ofLineOne number test = record { number = number; line = 1; test = test }
 
-unfoldable pub numberOf : Question → ℕ
-numberOf firstLine = 1
-numberOf ranges = 2
-numberOf textLength = 3
-numberOf lineFields = 4
-numberOf stateLines = 5
-numberOf edgeLines = 6
-numberOf edgesOut = 7
-numberOf formulaLines = 8
-
--- 1 to 3 are about line 1 and the length, 4 to 8 about the lines behind it.
-unfoldable pub headQuestions : List Question
-headQuestions = firstLine ∷ ranges ∷ textLength ∷ []
-
-unfoldable pub lineQuestions : List Question
-lineQuestions = lineFields ∷ stateLines ∷ edgeLines ∷ edgesOut ∷ formulaLines ∷ []
-
--- Read puts these, and every call that takes a job puts them first.
-unfoldable pub questions : List Question
-questions = headQuestions ++ lineQuestions
-
--- A question is about the text as a whole, or about n lines from line l on.
-pub data Asked : Type 0 where
-  ofText : Bool → Asked
-  ofLines : (ℕ → Bool) → ℕ → ℕ → Asked
-
-unfoldable pub yes : Asked → Bool
-yes (ofText b) = b
-yes (ofLines ok n l) = all ok n
-
--- The line that a no reports.
-unfoldable pub noLine : Asked → ℕ
-noLine (ofText b) = 1
-noLine (ofLines ok n l) = l + first (λ i. not (ok i)) n
+-- About n lines from line l on, put to all of them: the first that fails is reported.
+unfoldable pub ofLines : ℕ → (ℕ → Bool) → ℕ → ℕ → Question
+ofLines number ok n l = record { number = number; line = l + first (λ i. not (ok i)) n; test = all ok n }
 
 unfoldable pub within : ℕ → ℕ → ℕ → Bool
 within low high n = leb low n && leb n high
@@ -86,23 +56,49 @@ hasEdgeOut t s = any (λ e. eqb (source t e) s) (edges t)
 unfoldable pub formulaOk : Text → ℕ → Bool
 formulaOk t k = isFormula (parsed k (kind t k) (left t k) (right t k))
 
-unfoldable pub asked : Question → Text → Asked
-asked firstLine t = ofText (leb 21 (length t) && formed t 0 4)
-asked ranges t = ofText (inRanges (states t) (edges t) (subformulas t) (nodes t))
-asked textLength t = ofText (eqb (length t) (lengthOf t))
-asked lineFields t = ofLines (formedLine t) (states t + edges t + subformulas t) 2
-asked stateLines t = ofLines (stateOk t) (states t) 2
-asked edgeLines t = ofLines (edgeOk t) (edges t) (2 + states t)
-asked edgesOut t = ofLines (hasEdgeOut t) (states t) 2
-asked formulaLines t = ofLines (formulaOk t) (subformulas t) (2 + states t + edges t)
+-- "Has the text 21 bytes or more, and is line 1 four well-formed fields and byte 10? No: 1, line 1."
+unfoldable pub firstLine : Text → Question
+firstLine t = ofLineOne 1 (leb 21 (length t) && formed t 0 4)
 
-unfoldable pub passes : Text → Question → Bool
-passes t q = yes (asked q t)
+-- "Are S, E, K, N in their ranges? No: 2, line 1."
+unfoldable pub ranges : Text → Question
+ranges t = ofLineOne 2 (inRanges (states t) (edges t) (subformulas t) (nodes t))
 
--- The first question that is answered no.
-unfoldable pub refusal : Text → Option Question
-refusal t = firstNo (passes t) questions
+-- "Is the length right? No: 3, line 1."
+unfoldable pub textLength : Text → Question
+textLength t = ofLineOne 3 (eqb (length t) (lengthOf t))
+
+-- "Is each further line made of well-formed fields and byte 10? No: 4."
+unfoldable pub lineFields : Text → Question
+lineFields t = ofLines 4 (formedLine t) (states t + edges t + subformulas t) 2
+
+-- "Are owner and label in range on each state line? No: 5."
+unfoldable pub stateLines : Text → Question
+stateLines t = ofLines 5 (stateOk t) (states t) 2
+
+-- "Are both ends below S, and is the pair greater than the pair before? No: 6."
+unfoldable pub edgeLines : Text → Question
+edgeLines t = ofLines 6 (edgeOk t) (edges t) (2 + states t)
+
+-- "Has each state an edge out? No: 7, with the line of the lowest such state."
+unfoldable pub edgesOut : Text → Question
+edgesOut t = ofLines 7 (hasEdgeOut t) (states t) 2
+
+-- "Is each kind 1 to 7, with a and b as above? No: 8."
+unfoldable pub formulaLines : Text → Question
+formulaLines t = ofLines 8 (formulaOk t) (subformulas t) (2 + states t + edges t)
+
+-- 1 to 3 are about line 1 and the length, 4 to 8 about the lines behind it.
+unfoldable pub headQuestions : Text → List Question
+headQuestions t = firstLine t ∷ ranges t ∷ textLength t ∷ []
+
+unfoldable pub lineQuestions : Text → List Question
+lineQuestions t = lineFields t ∷ stateLines t ∷ edgeLines t ∷ edgesOut t ∷ formulaLines t ∷ []
+
+-- "Read puts 1 to 8", and every call that takes a job puts them first.
+unfoldable pub textQuestions : Text → List Question
+textQuestions t = headQuestions t ++ lineQuestions t
 
 -- The reader accepts a text when no question is answered no.
 unfoldable pub Accepted : Text → Type 0
-Accepted t = refusal t ≡ opt.none
+Accepted t = refusal (textQuestions t) ≡ opt.none

@@ -4,32 +4,26 @@
 use Prim.Native.Nat.{ℕ, _*_}
 use mathlib.Core.Bool.{Bool, cond, _&&_}
 use mathlib.Core.List.{List, [], _∷_}
-use mathlib.Core.Option.{Option}
-use mathlib.Core.Option as opt
 use lib.ListN.{take, drop}
 use lib.Dec.{leb}
-use Rattle.law.specs.Lists.{firstNo}
-use Rattle.job.specs.Layout.{Text, states, edges, subformulas, nodes, lines, fieldsOf, lineAt}
-use Rattle.job.specs.Questions.{Question, firstLine, ranges, textLength, numberOf, headQuestions, asked, noLine, passes, refusal}
+use Rattle.text.specs.Field.{Text}
+use Rattle.job.specs.Layout.{states, edges, subformulas, nodes, lines, fieldsOf, lineAt}
+use Rattle.job.specs.Question.{allYes, answered}
+use Rattle.job.specs.Questions.{headQuestions, textQuestions}
 use Rattle.job.specs.Answer.{Answer, accepted, refused}
 use Rattle.job.specs.declared.reader.Refusal.{Refusal}
 use Rattle.job.specs.declared.reader.Reading.{Reading}
 use Rattle.job.specs.declared.reader.Reading.the-variants.{Accepted, Refused}
 
--- own numbers where no question is answered no, else the refusal by that question, with 0 for each of the four
-unfoldable pub unless : Text → Option Question → List ℕ → Answer
-unless t opt.none own = accepted own
-unless t (opt.some q) own = refused (numberOf q) (noLine (asked q t)) 4
-
 unfoldable pub header : Text → List ℕ
 header t = states t ∷ edges t ∷ subformulas t ∷ nodes t ∷ []
 
 unfoldable pub readAnswer : Text → Answer
-readAnswer t = unless t (refusal t) (header t)
+readAnswer t = answered (textQuestions t) 4 (header t)
 
 -- The answer to questions 1 to 3 alone.
 unfoldable pub headAnswer : Text → Answer
-headAnswer t = unless t (firstNo (passes t) headQuestions) (header t)
+headAnswer t = answered (headQuestions t) 4 (header t)
 
 -- What each case of the reader's enum says, in document 01's numbers.
 unfoldable pub readTold : Reading → Answer
@@ -43,7 +37,7 @@ refusalOf (Refused why) = why
 
 -- Whether there is a line l to hand back: questions 1 to 3 are answered yes, and lines are counted from 1.
 unfoldable pub hasLine : Text → ℕ → Bool
-hasLine t l = passes t firstLine && passes t ranges && passes t textLength && leb 1 l && leb l (lines t)
+hasLine t l = allYes (headQuestions t) && leb 1 l && leb l (lines t)
 
 -- Where that part of the text begins and how many bytes it has; 0 and 0, the empty part, where there is no such line.
 unfoldable pub lineStart : Text → ℕ → ℕ

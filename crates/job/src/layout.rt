@@ -2,38 +2,15 @@
 ghost use mathlib.Core.Path.{_≡_};
 ghost use Prim.Native.Nat.{_+_, _*_, _≤_, _<_};
 ghost use lib.ListN.{length};
-ghost use Rattle.job.specs.Layout.{Text, numberAt, formed, states, edges, fieldsOf, lineAt};
+ghost use Rattle.text.specs.Field.{Text};
+ghost use Rattle.job.specs.Layout.{states, edges, fieldsOf, lineAt};
 ghost use Rattle.job.specs.Questions.{inRanges, within};
-ghost use Rattle.job.specs.Read.{readTold, headAnswer, lineStart, lineLength, lineOf};
-use crate::field::Field;
-use crate::field::read_field;
+ghost use Rattle.job.specs.Read.{readTold, headAnswer, lineStart, lineLength};
 use crate::reader::Header;
 use crate::reader::Reading;
 use crate::reader::refuse;
-
-// The number in the field at `at`, 0 where the field is not well-formed.
-pub fn number(text: &[u8], at: usize) -> usize
-    requires { ⌜ at + 5 ≤ length (now text) ⌝ }
-    ensures { λ r. ⌜ (r ≡ numberAt (now (text .entry)) at) × (r ≤ 99999) ⌝ }
-{
-    match read_field(text, at) {
-        Field::Number(value) => value,
-        Field::Malformed => 0,
-    }
-}
-
-// Whether a line of so many well-formed fields and byte 10 stands at `at`.
-pub(crate) fn is_formed(text: &[u8], at: usize, fields: usize) -> bool
-    requires { ⌜ (fields ≤ 4) × (at + 5 * fields < length (now text)) ⌝ }
-    ensures { λ r. ⌜ r ≡ formed (now (text .entry)) at fields ⌝ }
-{
-    for i in 0..fields {
-        let Field::Number(_) = read_field(text, at + 5 * i) else {
-            return false;
-        };
-    }
-    text[at + 5 * fields] == 10
-}
+use text::field::is_formed;
+use text::field::number;
 
 fn is_within(low: usize, high: usize, n: usize) -> bool
     ensures { λ r. ⌜ r ≡ within low high n ⌝ }
@@ -138,14 +115,4 @@ pub fn line_part(text: &[u8], number: usize) -> Part
         start: line_start(pairs, number),
         size: 5 * fields_in(pairs, number),
     }
-}
-
-// Line `number` itself: that part of the caller's text, the empty part where there is no such line.
-pub fn line(text: &[u8], number: usize) -> &[u8]
-    ensures { λ r. ⌜ now r ≡ lineOf (now (text .entry)) number ⌝ }
-{
-    let part = line_part(text, number);
-    let start = part.start;
-    let end = start + part.size;
-    &text[start..end]
 }

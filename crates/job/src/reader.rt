@@ -1,22 +1,21 @@
-// The call read: questions 1 to 8, put to any bytes.
+// The reader's answer, and questions 4 to 8, put to the lines behind line 1.
 ghost use mathlib.Core.Path.{_≡_};
 ghost use mathlib.Core.Bool.{cond, not, _||_};
 ghost use Prim.Native.Nat.{ℕ, _+_, _<_};
 ghost use lib.Dec.{eqb};
-ghost use lib.ListN.{length, getD};
-ghost use Rattle.law.specs.Bounded.{first, any};
+ghost use lib.ListN.{getD};
+ghost use Rattle.law.specs.Bounded.{first};
 ghost use Rattle.job.specs.Layout.{source};
 ghost use Rattle.job.specs.Questions.{formedLine, stateOk, less, edgeOk, hasEdgeOut, formulaOk};
 ghost use Rattle.job.specs.Leaves.{Fits, SourcesInside};
 ghost use Rattle.job.specs.Answer.{refused};
-ghost use Rattle.job.specs.Read.{readTold, refusalOf, readAnswer};
+ghost use Rattle.job.specs.Read.{readTold, refusalOf};
 use crate::layout::fields_in;
-use crate::layout::head;
-use crate::layout::is_formed;
 use crate::layout::line_start;
-use crate::layout::number;
 use crate::subformula::Parsed;
 use crate::subformula::parse;
+use text::field::is_formed;
+use text::field::number;
 
 // The numbers of line 1.
 pub struct Header {
@@ -37,7 +36,7 @@ pub enum Reading {
     Refused(Refusal),
 }
 
-pub(crate) fn refuse(number: u8, line: usize) -> Reading
+pub fn refuse(number: u8, line: usize) -> Reading
     ensures { λ r. ⌜ readTold r ≡ refused number line 4 ⌝ }
 {
     Reading::Refused(Refusal { number, line })
@@ -57,7 +56,7 @@ pub fn refused_by(r: Reading) -> Refusal
 // is about, or how many these are.
 
 // Question 4, of the lines behind line 1.
-fn malformed_line(text: &[u8], h: Header) -> usize
+pub fn malformed_line(text: &[u8], h: Header) -> usize
     requires { ⌜ Fits (now text) h ⌝ }
     ensures { λ r. ⌜ r ≡ first (λ i. not (formedLine (now (text .entry)) i)) (h .states + h .edges + h .subformulas) ⌝ }
 {
@@ -74,7 +73,7 @@ fn malformed_line(text: &[u8], h: Header) -> usize
 }
 
 // Question 5, of the state lines.
-fn bad_state(text: &[u8], h: Header) -> usize
+pub fn bad_state(text: &[u8], h: Header) -> usize
     requires { ⌜ Fits (now text) h ⌝ }
     ensures { λ r. ⌜ r ≡ first (λ s. not (stateOk (now (text .entry)) s)) (h .states) ⌝ }
 {
@@ -116,7 +115,7 @@ fn follows(e: usize, a: usize, b: usize, c: usize, d: usize) -> bool
 }
 
 // Question 6, of the edge lines; the pair before is kept.
-fn bad_edge(text: &[u8], h: Header) -> usize
+pub fn bad_edge(text: &[u8], h: Header) -> usize
     requires { ⌜ Fits (now text) h ⌝ }
     ensures { λ r. ⌜ r ≡ first (λ e. not (edgeOk (now (text .entry)) e)) (h .edges) ⌝ }
 {
@@ -160,7 +159,7 @@ fn sources(text: &[u8], h: Header) -> [u8; 256]
 }
 
 // Question 7, of the state lines.
-fn state_without_edge(text: &[u8], h: Header) -> usize
+pub fn state_without_edge(text: &[u8], h: Header) -> usize
     requires { ⌜ Fits (now text) h ⌝ }
     requires { ⌜ SourcesInside (now text) ⌝ }
     ensures { λ r. ⌜ r ≡ first (λ s. not (hasEdgeOut (now (text .entry)) s)) (h .states) ⌝ }
@@ -176,7 +175,7 @@ fn state_without_edge(text: &[u8], h: Header) -> usize
 }
 
 // Question 8, of the subformula lines.
-fn bad_formula(text: &[u8], h: Header) -> usize
+pub fn bad_formula(text: &[u8], h: Header) -> usize
     requires { ⌜ Fits (now text) h ⌝ }
     ensures { λ r. ⌜ r ≡ first (λ k. not (formulaOk (now (text .entry)) k)) (h .subformulas) ⌝ }
 {
@@ -195,36 +194,4 @@ fn bad_formula(text: &[u8], h: Header) -> usize
         };
     }
     subformulas
-}
-
-// Questions 1 to 8.
-pub fn read(text: &[u8]) -> Reading
-    ensures { λ r. ⌜ readTold r ≡ readAnswer (now (text .entry)) ⌝ }
-{
-    let head = head(text);
-    let Reading::Accepted(h) = head else {
-        return head;
-    };
-    let pairs = h.states + h.edges;
-    let bad = malformed_line(text, h);
-    if bad < pairs + h.subformulas {
-        return refuse(4, 2 + bad);
-    }
-    let bad = bad_state(text, h);
-    if bad < h.states {
-        return refuse(5, 2 + bad);
-    }
-    let bad = bad_edge(text, h);
-    if bad < h.edges {
-        return refuse(6, 2 + h.states + bad);
-    }
-    let bad = state_without_edge(text, h);
-    if bad < h.states {
-        return refuse(7, 2 + bad);
-    }
-    let bad = bad_formula(text, h);
-    if bad < h.subformulas {
-        return refuse(8, 2 + pairs + bad);
-    }
-    Reading::Accepted(h)
 }

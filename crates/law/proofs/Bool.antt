@@ -69,14 +69,6 @@ pub or-cases : (a b : Bool) → (a || b) ≡ true → (a ≡ true) ⊎ (b ≡ tr
 or-cases true b e = inl refl
 or-cases false b e = inr e
 
-pub or-no-left : (a b : Bool) → (a || b) ≡ false → a ≡ false
-or-no-left true b e = e
-or-no-left false b e = refl
-
-pub or-no-right : (a b : Bool) → (a || b) ≡ false → b ≡ false
-or-no-right true b e = absurd (true≢false e)
-or-no-right false b e = e
-
 pub and-mono : (a b c : Bool) → (b ≡ true → c ≡ true) → (a && b) ≡ true → (a && c) ≡ true
 and-mono true b c h e = h e
 and-mono false b c h e = e

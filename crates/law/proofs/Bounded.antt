@@ -117,6 +117,12 @@ module _ (p : ℕ → Bool) where
       (λ h. any-intro (suc n) n (omega arith) h)
       (or-cases (any p n) (p n) e))
 
+pub any-same : (p q : ℕ → Bool) (n : ℕ) → ((i : ℕ) → i < n → p i ≡ q i) → any p n ≡ any q n
+any-same p q n same =
+    same-test (any p n) (any q n)
+    (λ t. let (l, h) = any-found p n t in any-intro q n _ l (sym (same _ l) ∙ h))
+    (λ t. let (l, h) = any-found q n t in any-intro p n _ l (same _ l ∙ h))
+
 module _ (p : ℕ → Bool) where
   pub all-intro : (n : ℕ) → ((i : ℕ) → i < n → p i ≡ true) → all p n ≡ true
   unfolding all

@@ -1,7 +1,7 @@
 -- Laws of `count`: at most n, more for a larger set, and what counts say of a set inside another. A set is a test of the
 -- numbers below n. Assumes nothing.
 use Prim.Native.Nat.{ℕ, zero, suc, _+_, _<_, _≤_}
-use mathlib.Core.Path.{_≡_, refl, sym, _∙_}
+use mathlib.Core.Path.{_≡_, refl, sym, _∙_, ap}
 use mathlib.Core.Bool.{Bool, true, false, cond, false≢true}
 use native.Mathlib.Nat.{le-refl, not-suc-le-zero}
 use native.Mathlib.Omega.{arith}
@@ -62,3 +62,39 @@ count-sum p q r (suc n) h = omega (arith, h n (le-refl (suc n)), count-sum p q r
 pub count-none : (p : ℕ → Bool) (n : ℕ) → count p n ≡ 0 → (i : ℕ) → i < n → p i ≡ false
 count-none p n e i l =
     split (p i) (λ t. t ∙ sym (count-back (λ j. false) p n (λ j g f. clash false f refl) (omega arith) i l t)) (λ f. f)
+
+pub count-zero : (p : ℕ → Bool) (n : ℕ) → ((i : ℕ) → i < n → p i ≡ false) → count p n ≡ 0
+unfolding count
+count-zero p zero none = refl
+count-zero p (suc n) none =
+    omega (arith, ap (λ (b : Bool). cond {A = ℕ} b 1 0) (none n (le-refl (suc n))), count-zero p n (λ i l. none i (omega arith)))
+
+pub count-found : (p : ℕ → Bool) (n : ℕ) → 0 < count p n → (i : ℕ) × (i < n) × (p i ≡ true)
+unfolding count
+count-found p zero h = absurd (not-suc-le-zero h)
+count-found p (suc n) h =
+    split (p n)
+    (λ t. (n, le-refl (suc n), t))
+    (λ f. let (i, l, t) = count-found p n (omega (arith, ap (λ (b : Bool). cond {A = ℕ} b 1 0) f)) in (i, omega arith, t))
+
+-- one number more that passes
+pub count-one :
+    (p q : ℕ → Bool) (n i : ℕ)
+    → i < n
+    → p i ≡ false
+    → q i ≡ true
+    → ((j : ℕ) → j < n → (j ≡ i → ⊥) → q j ≡ p j)
+    → count q n ≡ count p n + 1
+unfolding count
+count-one p q zero i l f t same = absurd (not-suc-le-zero l)
+count-one p q (suc n) i l f t same =
+    below-suc i n l
+    (λ less.
+    let next = count-one p q n i less f t (λ j g. same j (omega arith)) in
+    let here : q n ≡ p n = same n (le-refl (suc n)) (λ e. omega arith) in
+    omega (arith, next, ap (λ (b : Bool). cond {A = ℕ} b 1 0) here))
+    (λ e.
+    let before = count-same q p n (λ j g. same j (omega arith) (λ z. omega arith)) in
+    let f′ : p n ≡ false = rw (sym e) f in
+    let t′ : q n ≡ true = rw (sym e) t in
+    omega (arith, before, ap (λ (b : Bool). cond {A = ℕ} b 1 0) f′, ap (λ (b : Bool). cond {A = ℕ} b 1 0) t′))

@@ -5,4 +5,3 @@ pub mod Lists
 pub mod Least
 pub mod Greatest
 pub mod Chunks
-pub mod FirstNo

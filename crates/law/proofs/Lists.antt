@@ -1,17 +1,16 @@
--- Laws of `tab`, `every`, `some` and `firstNo`: lengths, elements, and what a test over a list says of each element.
+-- Laws of `tab`, `every` and `some`: lengths, elements, and what a test over a list says of each element.
 -- Assumes nothing.
 use Prim.Native.Nat.{ℕ, zero, suc, _+_, _<_}
 use mathlib.Core.Path.{_≡_, refl, sym, _∙_, ap, ap₂}
 use mathlib.Core.Bool.{Bool, true, false, true≢false, _&&_, _||_}
-use mathlib.Core.List.{List, [], _∷_, _++_}
+use mathlib.Core.List.{List, [], _∷_}
 use mathlib.Core.Logic.{⊎-elim}
-use mathlib.Core.Option as opt
 use native.Mathlib.Nat.{not-suc-le-zero, le-of-suc-le-suc, add-zero, zero-add, add-suc, suc-add}
 use native.Mathlib.Omega.{arith}
 use lib.ListN.{length, getD, take, drop}
 use lib.Seq.{ext-getD, slice, take-nil}
-use Rattle.law.specs.Lists.{from, tab, every, some, firstNo}
-use Rattle.law.proofs.Bool.{split, cond-true, cond-false, and-intro, and-left, and-right, or-left, or-right, or-cases, or-none}
+use Rattle.law.specs.Lists.{from, tab, every, some}
+use Rattle.law.proofs.Bool.{and-intro, and-left, and-right, or-left, or-right, or-cases, or-none}
 
 -- n elements from m on, as a part of the list that ends at m + n
 pub take-drop {ℓ} : {A : Type ℓ} (n m : ℕ) (l : List A) → take n (drop m l) ≡ slice m (m + n) l
@@ -112,32 +111,3 @@ module _ {A : Type 0} (p q : A → Bool) (more : (x : A) → p x ≡ true → q 
       (λ here. or-left (q x) (some q l) (more x here))
       (λ later. or-right (q x) (some q l) (some-mono l later))
       (or-cases (p x) (some p l) e)
-
--- no element is the first that fails exactly where every one passes
-module _ {A : Type 0} (p : A → Bool) where
-  pub no-first : (l : List A) → firstNo p l ≡ opt.none → every p l ≡ true
-  unfolding firstNo every
-  no-first [] e = refl
-  no-first (x ∷ l) e =
-      split (p x)
-      (λ t. and-intro (p x) (every p l) t (no-first l (sym (cond-true (p x) (firstNo p l) (opt.some x) t) ∙ e)))
-      (λ f. let stop : _≡_ {A = ℕ} 0 1 = cc (cond-false (p x) (firstNo p l) (opt.some x) f) in absurd (omega arith))
-
-  pub first-no : (l : List A) → ((x : A) → p x ≡ true) → firstNo p l ≡ opt.none
-  unfolding firstNo
-  first-no [] h = refl
-  first-no (x ∷ l) h = cond-true (p x) (firstNo p l) (opt.some x) (h x) ∙ first-no l h
-
-  pub first-none : (l : List A) → every p l ≡ true → firstNo p l ≡ opt.none
-  unfolding firstNo every
-  first-none [] e = refl
-  first-none (x ∷ l) e =
-      cond-true (p x) (firstNo p l) (opt.some x) (and-left (p x) (every p l) e) ∙ first-none l (and-right (p x) (every p l) e)
-
-  -- the first no, behind elements that pass
-  pub first-no-at : (before : List A) (x : A) (after : List A) → every p before ≡ true → p x ≡ false → firstNo p (before ++ (x ∷ after)) ≡ opt.some x
-  unfolding firstNo every
-  first-no-at [] x after e f = cond-false (p x) (firstNo p after) (opt.some x) f
-  first-no-at (y ∷ before) x after e f =
-      cond-true (p y) (firstNo p (before ++ (x ∷ after))) (opt.some y) (and-left (p y) (every p before) e)
-      ∙ first-no-at before x after (and-right (p y) (every p before) e) f

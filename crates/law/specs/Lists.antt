@@ -1,9 +1,7 @@
--- Lists given by a function of the index, quantifiers over a list, and the first element that fails a test. Assumes nothing.
+-- Lists given by a function of the index, and quantifiers over a list. Assumes nothing.
 use Prim.Native.Nat.{ℕ, zero, suc}
-use mathlib.Core.Bool.{Bool, true, false, cond, _&&_, _||_}
+use mathlib.Core.Bool.{Bool, true, false, _&&_, _||_}
 use mathlib.Core.List.{List, [], _∷_, _++_}
-use mathlib.Core.Option.{Option}
-use mathlib.Core.Option as opt
 
 module _ {A : Type 0} where
   -- f i, f (i + 1), .. : n of them
@@ -27,8 +25,3 @@ module _ {A : Type 0} where
   unfoldable pub some : (A → Bool) → List A → Bool
   some p [] = false
   some p (x ∷ xs) = p x || some p xs
-
-  -- the first element that fails p, if any does
-  unfoldable pub firstNo : (A → Bool) → List A → Option A
-  firstNo p [] = opt.none
-  firstNo p (x ∷ xs) = let later = firstNo p xs in cond (p x) later (opt.some x)

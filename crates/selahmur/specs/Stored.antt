@@ -1,7 +1,7 @@
 -- What a function of this crate leaves in the array that its caller lends for the answer. Assumes nothing.
 use Prim.Native.Nat.{ℕ}
 use mathlib.Core.List.{List, [], _∷_}
-use Rattle.job.specs.Layout.{Text}
+use Rattle.text.specs.Field.{Text}
 use Rattle.job.specs.Answer.{numbers}
 use Rattle.cells.specs.Table.{Table}
 use Rattle.cells.specs.Calls.{Call, answer}

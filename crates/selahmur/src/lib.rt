@@ -3,6 +3,6 @@
 // caller lends; one that is too short takes as many as fit. Nothing is worked out here and nothing is required: any bytes and any numbers
 // may be passed. `include/selahmur.h` declares the functions, and `rt staticlib selahmur` writes the archive.
 pub mod message;
+pub mod reading;
 pub mod store;
-pub mod table;
-pub mod text;
+pub mod work;

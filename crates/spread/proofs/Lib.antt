@@ -1,7 +1,6 @@
 pub mod Chain
+pub mod Queue
 pub mod Tally
-pub mod Marking
 pub mod Turn
 pub mod Walk
-pub mod Start
 pub mod Worklist

@@ -1,58 +1,26 @@
 -- Counting the edges out of a state: when all are seen, and when some are. Assumes nothing.
-use Prim.Native.Nat.{ℕ, zero, suc, _+_, _-_, _<_, _≤_}
+use Prim.Native.Nat.{ℕ, suc, _+_, _-_, _<_, _≤_}
 use mathlib.Core.Path.{_≡_, refl, sym, _∙_, ap}
 use mathlib.Core.Bool.{Bool, true, false, cond, not, _&&_, _||_}
-use mathlib.Core.List.{List}
-use native.Mathlib.Nat.{le-refl, not-suc-le-zero}
 use native.Mathlib.Numerals.{add-one}
 use native.Mathlib.Omega.{arith}
 use borrow.Author.Tests.{eqb-true, eq-eqb, ne-eqb, lt-ltb, le-ltb, ltb-true}
-use lib.ListN.{length, getD}
+use lib.ListN.{length}
 use lib.Dec.{eqb, ltb}
 use Rattle.law.specs.Bounded.{count}
 use Rattle.law.proofs.Bool.{split, clash, and-intro, and-left, and-right, and-no-left, and-no-right, or-left, or-right, not-is-true}
-use Rattle.law.proofs.Bounded.{by-order, by-equal, below-suc}
-use Rattle.law.proofs.Count.{count-back, count-same, count-sum, count-none}
+use Rattle.law.proofs.Bounded.{by-order, by-equal}
+use Rattle.law.proofs.Count.{count-le, count-back, count-same, count-sum, count-none, count-zero, count-found, count-one}
 use Rattle.law.proofs.Lists.{every-intro, every-elim, some-intro, some-elim}
-use Rattle.job.specs.Job.{Structure, over}
-use Rattle.job.specs.Written.{noEdge}
-use Rattle.machine.specs.Decoded.{from, to, firstEdge}
-use Rattle.spread.specs.Spread.{quantifier, Lent}
-use Rattle.spread.specs.Underway.{enough, Runs, outs, seenOuts}
+use Rattle.job.specs.Job.{Job, Structure, size, over}
+use Rattle.job.specs.Rule.{quantifier}
+use Rattle.job.specs.Written.{IsJob, noEdge, edgeOf, edgeCount}
+use Rattle.image.specs.Image.{from, to, firstEdge}
+use Rattle.spread.specs.Underway.{enough, outs, seenOuts}
 
 all-of : (a b : Bool) → (not a || b) ≡ true → (a && b) ≡ a
 all-of true b e = e
 all-of false b e = refl
-
--- one number more that passes
-pub count-one :
-    (p q : ℕ → Bool) (n i : ℕ)
-    → i < n
-    → p i ≡ false
-    → q i ≡ true
-    → ((j : ℕ) → j < n → (j ≡ i → ⊥) → q j ≡ p j)
-    → count q n ≡ count p n + 1
-unfolding count
-count-one p q zero i l f t same = absurd (not-suc-le-zero l)
-count-one p q (suc n) i l f t same =
-    below-suc i n l
-    (λ less.
-    let next = count-one p q n i less f t (λ j g. same j (omega arith)) in
-    let here : q n ≡ p n = same n (le-refl (suc n)) (λ e. omega arith) in
-    omega (arith, next, ap (λ (b : Bool). cond {A = ℕ} b 1 0) here))
-    (λ e.
-    let before = count-same q p n (λ j g. same j (omega arith) (λ z. omega arith)) in
-    let f′ : p n ≡ false = rw (sym e) f in
-    let t′ : q n ≡ true = rw (sym e) t in
-    omega (arith, before, ap (λ (b : Bool). cond {A = ℕ} b 1 0) f′, ap (λ (b : Bool). cond {A = ℕ} b 1 0) t′))
-
-pub count-found : (p : ℕ → Bool) (n : ℕ) → 0 < count p n → (i : ℕ) × (i < n) × (p i ≡ true)
-unfolding count
-count-found p zero h = absurd (not-suc-le-zero h)
-count-found p (suc n) h =
-    split (p n)
-    (λ t. (n, le-refl (suc n), t))
-    (λ f. let (i, l, t) = count-found p n (omega (arith, ap (λ (b : Bool). cond {A = ℕ} b 1 0) f)) in (i, omega arith, t))
 
 -- the run of a state is as long as its edges out are many
 run-digit : (x s : ℕ) → cond (ltb x s) 1 0 + cond (eqb x s) 1 0 ≡ cond (ltb x (suc s)) 1 0
@@ -64,42 +32,98 @@ run-digit x s =
     (λ e. simp (le-ltb x s h, eq-eqb x s e, lt-ltb x (suc s) (omega arith)))
     (λ e. simp (le-ltb x s h, ne-eqb x s e, le-ltb x (suc s) (let stop : suc s ≤ x = omega arith in stop))))
 
-pub lent-runs :
-    {states : ℕ} {first sources heads nexts : List ℕ} (l : Lent states first sources heads nexts) → Runs (l .structure) states first
-lent-runs l =
-    record { states-are = l .states-are; few-states = l .by-edge .few-states; first-at = l .by-edge .first-at }
+run-sum : (M : Structure) (s : ℕ) → firstEdge M s + outs M s ≡ firstEdge M (s + 1)
+unfolding firstEdge outs
+run-sum M s =
+    rw (add-one s)
+    (count-sum (λ e. ltb (from M e) s) (λ e. eqb (from M e) s) (λ e. ltb (from M e) (suc s)) (length (M .edges))
+    (λ e l. run-digit (from M e) s))
 
-module _ (M : Structure) where
-  run-sum : (s : ℕ) → firstEdge M s + outs M s ≡ firstEdge M (suc s)
-  unfolding firstEdge outs
-  run-sum s =
-      count-sum (λ e. ltb (from M e) s) (λ e. eqb (from M e) s) (λ e. ltb (from M e) (suc s)) (length (M .edges))
-      (λ e l. run-digit (from M e) s)
+pub run-is :
+    (M : Structure) (s first next : ℕ)
+    → first ≡ firstEdge M s
+    → next ≡ firstEdge M (s + 1)
+    → (first ≤ next) × (next - first ≡ outs M s)
+run-is M s first next f g = let sum = run-sum M s in (omega arith, omega arith)
 
-  pub run-is :
-      (states : ℕ) (first : List ℕ) → Runs M states first → (s : ℕ) → s < length (M .labels)
-      → (getD first s 0 ≤ getD first (s + 1) 0) × (getD first (s + 1) 0 - getD first s 0 ≡ outs M s)
-  run-is states first runs s l =
-      let here = runs .first-at s (omega arith) in
-      let next : getD first (s + 1) 0 ≡ firstEdge M (suc s) =
-      runs .first-at (s + 1) (omega arith) ∙ ap (firstEdge M) (add-one s)
-      in
-      let sum = run-sum s in
-      (omega arith, omega arith)
+-- whether a state of mark 1 joins
+pub joins-all :
+    (all : Bool) (M : Structure) (s mark told first next : ℕ)
+    → mark ≡ 1
+    → all ≡ true
+    → first ≡ firstEdge M s
+    → next ≡ firstEdge M (s + 1)
+    → eqb told (next - first) ≡ (eqb mark 1 && enough all (outs M s) told)
+unfolding enough
+joins-all all M s mark told first next one each f g = rw (one, each, run-is M s first next f g .1)
+
+pub joins-some :
+    (all : Bool) (out mark told : ℕ) → mark ≡ 1 → all ≡ false → ltb 0 told ≡ (eqb mark 1 && enough all out told)
+unfolding enough
+joins-some all out mark told one some = rw (one, some)
+
+-- no edge is enough, where there is one
+pub enough-none : (all : Bool) (out : ℕ) → 0 < out → enough all out 0 ≡ false
+unfolding enough
+enough-none true out l = ne-eqb 0 out (λ e. omega arith)
+enough-none false out l = le-ltb 0 0 (omega arith)
+
+module _ (J : Job) where
+  abbrev M : Structure
+  M = J .structure
+
+  pub source-in : IsJob J → (e : ℕ) → e < edgeCount J → from M e < size J
+  unfolding from edgeOf
+  source-in job e l = job .ends e l .0
+
+  pub target-in : IsJob J → (e : ℕ) → e < edgeCount J → to M e < size J
+  unfolding to edgeOf
+  target-in job e l = job .ends e l .1
+
+  pub outs-some : IsJob J → (s : ℕ) → s < size J → 0 < outs M s
+  unfolding outs from edgeOf edgeCount
+  outs-some job s l =
+      let (e, g, is) = job .edgeOut s l in
+      let here : ℕ → Bool = λ e. eqb (from M e) s in
+      by-order 0 (count here (edgeCount J)) (λ some. some)
+      (λ none. clash (here e) (eq-eqb (from M e) s is) (count-none here (edgeCount J) (omega arith) e g))
+
+  pub seen-few : (seen : ℕ → Bool) (s : ℕ) → seenOuts M seen s ≤ edgeCount J
+  unfolding seenOuts edgeCount
+  seen-few seen s = count-le (λ e. eqb (from M e) s && seen e) (edgeCount J)
+
+  -- the same edges out of a state by another test
+  pub seen-same :
+      (seen seen′ : ℕ → Bool) (s : ℕ)
+      → ((e : ℕ) → e < edgeCount J → from M e ≡ s → seen e ≡ seen′ e)
+      → seenOuts M seen s ≡ seenOuts M seen′ s
+  unfolding seenOuts edgeCount
+  seen-same seen seen′ s same =
+      let here : ℕ → Bool = λ e. eqb (from M e) s in
+      count-same (λ e. here e && seen e) (λ e. here e && seen′ e) (edgeCount J)
+      (λ e l.
+      split (here e)
+      (λ t. ap (λ b. here e && b) (same e l (eqb-true (from M e) s t)))
+      (λ f. and-no-left (here e) (seen e) f ∙ sym (and-no-left (here e) (seen′ e) f)))
+
+  pub seen-none : (seen : ℕ → Bool) (s : ℕ) → ((e : ℕ) → seen e ≡ false) → seenOuts M seen s ≡ 0
+  unfolding seenOuts
+  seen-none seen s none =
+      count-zero (λ e. eqb (from M e) s && seen e) (length (M .edges)) (λ e l. and-no-right (eqb (from M e) s) (seen e) (none e))
 
   -- where told edges are enough, that many successors are in each set that the seen edges lead into
   pub enough-over :
       (all : Bool) (seen X : ℕ → Bool) (s : ℕ)
-      → ((e : ℕ) → e < length (M .edges) → seen e ≡ true → X (to M e) ≡ true)
+      → ((e : ℕ) → e < edgeCount J → seen e ≡ true → X (to M e) ≡ true)
       → enough all (outs M s) (seenOuts M seen s) ≡ true
       → over M (quantifier all) s X ≡ true
-  unfolding enough outs seenOuts quantifier over from to
+  unfolding enough outs seenOuts over from to edgeCount
   enough-over true seen X s into h =
       let here : ℕ → Bool = λ e. eqb (from M e) s in
       let both : ℕ → Bool = λ e. here e && seen e in
       let back =
-      count-back both here (length (M .edges)) (λ e l. and-left (here e) (seen e))
-      (let same = eqb-true (count both (length (M .edges))) (count here (length (M .edges))) h in omega arith)
+      count-back both here (edgeCount J) (λ e l. and-left (here e) (seen e))
+      (let same = eqb-true (count both (edgeCount J)) (count here (edgeCount J)) h in omega arith)
       in
       every-intro (λ e. not (eqb (e .from) s) || X (e .to)) (M .edges) noEdge
       (λ e l.
@@ -108,7 +132,7 @@ module _ (M : Structure) where
       (λ f. or-left (not (here e)) (X (to M e)) (not-is-true (here e) f)))
   enough-over false seen X s into h =
       let both : ℕ → Bool = λ e. eqb (from M e) s && seen e in
-      let (e, l, t) = count-found both (length (M .edges)) (ltb-true 0 (count both (length (M .edges))) h) in
+      let (e, l, t) = count-found both (edgeCount J) (ltb-true 0 (count both (edgeCount J)) h) in
       some-intro (λ g. eqb (g .from) s && X (g .to)) (M .edges) noEdge e l
       (and-intro (eqb (from M e) s) (X (to M e)) (and-left (eqb (from M e) s) (seen e) t)
       (into e l (and-right (eqb (from M e) s) (seen e) t)))
@@ -118,7 +142,7 @@ module _ (M : Structure) where
       (all : Bool) (X : ℕ → Bool) (s : ℕ)
       → over M (quantifier all) s X ≡ true
       → enough all (outs M s) (seenOuts M (λ e. X (to M e)) s) ≡ true
-  unfolding enough outs seenOuts quantifier over from to
+  unfolding enough outs seenOuts over from to
   over-enough true X s h =
       let m = length (M .edges) in
       let here : ℕ → Bool = λ e. eqb (from M e) s in
@@ -134,25 +158,17 @@ module _ (M : Structure) where
       (λ none. clash (both e) t (count-none both m (omega arith) e l))
 
   -- one edge more is seen: it counts at its source, and nowhere else
-  module _ (seen seen′ : ℕ → Bool) (e : ℕ) (l : e < length (M .edges)) (new : seen e ≡ false) (now-seen : seen′ e ≡ true)
-      (others : (j : ℕ) → j < length (M .edges) → (j ≡ e → ⊥) → seen′ j ≡ seen j) where
+  module _ (seen seen′ : ℕ → Bool) (e : ℕ) (l : e < edgeCount J) (new : seen e ≡ false) (now-seen : seen′ e ≡ true)
+      (others : (j : ℕ) → j < edgeCount J → (j ≡ e → ⊥) → seen′ j ≡ seen j) where
     pub seen-here : seenOuts M seen′ (from M e) ≡ seenOuts M seen (from M e) + 1
-    unfolding seenOuts
+    unfolding seenOuts edgeCount
     seen-here =
         let here : ℕ → Bool = λ j. eqb (from M j) (from M e) in
-        count-one (λ j. here j && seen j) (λ j. here j && seen′ j) (length (M .edges)) e l
+        count-one (λ j. here j && seen j) (λ j. here j && seen′ j) (edgeCount J) e l
         (and-no-right (here e) (seen e) new)
         (and-intro (here e) (seen′ e) (eq-eqb (from M e) (from M e) refl) now-seen)
         (λ j g q. ap (λ b. here j && b) (others j g q))
 
     pub seen-other : (s : ℕ) → (s ≡ from M e → ⊥) → seenOuts M seen′ s ≡ seenOuts M seen s
-    unfolding seenOuts
     seen-other s q =
-        let here : ℕ → Bool = λ j. eqb (from M j) s in
-        count-same (λ j. here j && seen′ j) (λ j. here j && seen j) (length (M .edges))
-        (λ j g.
-        by-equal j e
-        (λ same.
-        let no : here j ≡ false = ne-eqb (from M j) s (λ z. q (sym z ∙ ap (from M) same)) in
-        and-no-left (here j) (seen′ j) no ∙ sym (and-no-left (here j) (seen j) no))
-        (λ other. ap (λ b. here j && b) (others j g other)))
+        seen-same seen′ seen s (λ j g is. others j g (λ same. q (sym is ∙ ap (from M) same)))

@@ -1,9 +1,2 @@
-pub mod Arrays
-pub mod Leaves
-pub mod SetLaws
-pub mod Runs
-pub mod ColumnLaws
-pub mod FillLaws
-pub mod StepLaws
 pub mod StaleLaws
 pub mod WorkedLaws

@@ -7,86 +7,86 @@ use native.Mathlib.Omega.{arith}
 use lib.ListN.{set}
 use Rattle.law.specs.Lists.{some}
 use Rattle.law.proofs.Bool.{or-left, or-false}
-use Rattle.job.specs.Job.{Job}
-use Rattle.job.specs.Written.{Operands}
-use Rattle.job.specs.declared.subformula.Subformula.{Subformula}
-use Rattle.cells.specs.Rest.{columnByte, isStale, operands, reads, bears}
+use Rattle.job.specs.Job.{Job, subformulaCount}
+use Rattle.job.specs.Rule.{ruleAt, operands}
+use Rattle.job.specs.declared.rule.Rule.{Rule}
 use Rattle.cells.specs.Table.{Table}
-use Rattle.cells.proofs.Grown.{Grown, stepColumn-grown}
+use Rattle.cells.specs.Step.{stepColumn}
+use Rattle.cells.specs.Rest.{columnByte, isStale, reads, bears}
+use Rattle.cells.proofs.Grown.{stepColumn-grown}
 use Rattle.cells.proofs.Counts.{filled-same, filled-none}
 use Rattle.cells.proofs.Tracked.{mark-none, mark-set}
-use Rattle.stepping.specs.Task.{Stepped}
-use Rattle.stepping.specs.Stale.{RestingColumn, ColumnWorked}
-use Rattle.stepping.proofs.ColumnLaws.{node-few, operands-of}
+use Rattle.image.specs.Image.{jobOf}
+use Rattle.table.specs.Filling.{Leaves}
+use Rattle.stepping.specs.Stale.{Resting, ColumnWorked}
 
 -- By the column's own mark, and by those of its operands.
-module _ (stale : List ℕ) (n k : ℕ) (f : Subformula) where
-  pub bears-own : isStale stale n k ≡ true → true ≡ bears stale n k f
+module _ (stale : List ℕ) (n k : ℕ) (rule : Rule) where
+  pub bears-own : isStale stale n k ≡ true → true ≡ bears stale n k rule
   unfolding bears reads some
-  bears-own e = sym (or-left (isStale stale n k) (some (isStale stale n) (operands f)) e)
+  bears-own e = sym (or-left (isStale stale n k) (some (isStale stale n) (operands rule)) e)
 
-  bears-by : (l : List ℕ) → isStale stale n k ≡ false → operands f ≡ l → some (isStale stale n) l ≡ bears stale n k f
+  bears-by : (l : List ℕ) → isStale stale n k ≡ false → operands rule ≡ l → some (isStale stale n) l ≡ bears stale n k rule
   unfolding bears reads some
   bears-by l e is = simp (e, is)
 
-  pub bears-none : isStale stale n k ≡ false → operands f ≡ [] → false ≡ bears stale n k f
+  pub bears-none : isStale stale n k ≡ false → operands rule ≡ [] → false ≡ bears stale n k rule
   unfolding some
   bears-none e is = bears-by [] e is
 
-  pub bears-one : (a : ℕ) (r : Bool) → isStale stale n k ≡ false → operands f ≡ a ∷ [] → r ≡ isStale stale n a → r ≡ bears stale n k f
+  pub bears-one : (a : ℕ) (r : Bool) → isStale stale n k ≡ false → operands rule ≡ a ∷ [] → r ≡ isStale stale n a → r ≡ bears stale n k rule
   unfolding some
   bears-one a r e is one = one ∙ sym (or-false (isStale stale n a)) ∙ bears-by (a ∷ []) e is
 
   pub bears-two :
       (a b : ℕ) (r : Bool)
       → isStale stale n k ≡ false
-      → operands f ≡ a ∷ b ∷ []
+      → operands rule ≡ a ∷ b ∷ []
       → r ≡ (isStale stale n a || isStale stale n b)
-      → r ≡ bears stale n k f
+      → r ≡ bears stale n k rule
   unfolding some
   bears-two a b r e is two =
       two ∙ ap (λ x. isStale stale n a || x) (sym (or-false (isStale stale n b))) ∙ bears-by (a ∷ b ∷ []) e is
 
 -- One column.
-module _ {states subformulas : ℕ} {labels first sources targets heads nexts places table : List ℕ} {n k : ℕ} {f : Subformula}
-    {stale news : List ℕ} (w : RestingColumn states subformulas labels first sources targets heads nexts places table n k f stale news) where
+module _ {m : List ℕ} {t : Table} {n : ℕ} {stale news : List ℕ} (w : Resting m t n stale news) (k : ℕ) (l : k < subformulaCount (jobOf m)) where
   abbrev J : Job
-  J = w .column .node .job
+  J = jobOf m
 
-  pub bears-ask : (n < 8) × (k < 32) × Operands k f
-  bears-ask =
-      let few = node-few (w .column .node) in
-      let depth-is = w .column .node .subformulas-are in
-      let l = w .column .k-in in
-      (few .2, omega arith, operands-of (w .column) f refl)
+  pub column-small : (n < 8) × (k < 32)
+  column-small =
+      let node = w .node-in in
+      let nodes = w .ready .lent .image .is-job .nodes .below in
+      let subformulas = w .ready .lent .image .is-job .subformulas .below in
+      (omega arith, omega arith)
 
   -- left out
-  pub column-left : bears stale n k f ≡ false → ColumnWorked J n k table stale news table stale news 0
-  column-left none =
-      let idle = w .rested k (w .column .k-in) (rw (w .column .f-is) at none) in
+  pub column-left : (rule : Rule) → rule ≡ ruleAt J k → bears stale n k rule ≡ false → ColumnWorked J n k t stale news t stale news 0
+  column-left rule is none =
+      let idle = w .rested k l (rw is at none) in
       record {
-        stepped = (sym idle, sym (filled-same table));
-        stale-marked = mark-none table (columnByte n k) stale table refl;
-        news-marked = mark-none table k news table refl;
+        leaves = record { table-is = sym idle; told-is = sym (rw idle (filled-same t)) };
+        stale-marked = mark-none t (columnByte n k) stale t refl;
+        news-marked = mark-none t k news t refl;
       }
 
-  module _ (after : Table) (r : ℕ) (stepped : Stepped J n k table after r) where
+  module _ (after : Table) (r : ℕ) (leaves : Leaves t (stepColumn J n k t) after r) where
     -- worked, and nothing is filled
-    pub column-idle : r ≡ 0 → ColumnWorked J n k table stale news after stale news 0
+    pub column-idle : r ≡ 0 → ColumnWorked J n k t stale news after stale news 0
     column-idle none =
-        let grown : Grown J table after = rw (stepped .0) (stepColumn-grown J n k table) in
-        let same = filled-none J table after grown (sym (stepped .1) ∙ none) in
+        let idle = filled-none J t (stepColumn J n k t) (stepColumn-grown J n k t) (sym (leaves .told-is) ∙ none) in
+        let same = leaves .table-is ∙ idle in
         record {
-          stepped = (stepped .0, sym none ∙ stepped .1);
-          stale-marked = mark-none table (columnByte n k) stale after same;
-          news-marked = mark-none table k news after same;
+          leaves = record { table-is = leaves .table-is; told-is = sym none ∙ leaves .told-is };
+          stale-marked = mark-none t (columnByte n k) stale after same;
+          news-marked = mark-none t k news after same;
         }
 
-    pub column-marked : ColumnWorked J n k table stale news after (set stale (columnByte n k) 1) (set news k 1) r
+    pub column-marked : ColumnWorked J n k t stale news after (set stale (columnByte n k) 1) (set news k 1) r
     column-marked =
-        let (node-in, sub-in, o) = bears-ask in
+        let (node, subformula) = column-small in
         record {
-          stepped = stepped;
-          stale-marked = mark-set table (columnByte n k) stale after (omega (arith, w .stale-long));
-          news-marked = mark-set table k news after (omega (arith, w .news-long));
+          leaves = leaves;
+          stale-marked = mark-set t (columnByte n k) stale after (omega (arith, w .stale-long));
+          news-marked = mark-set t k news after (omega (arith, w .news-long));
         }

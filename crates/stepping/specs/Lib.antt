@@ -1,4 +1,1 @@
-pub mod Values
-pub mod Sets
-pub mod Task
 pub mod Stale

@@ -1,8 +1,2 @@
-// The step of one node on the decoded arrays, in place: column by column, the subformulas from 0 upward. `step` works every
-// column that has an empty cell, `stale` only those on which something new bears; both leave the same table.
-pub mod column;
-pub mod filling;
-pub mod local;
-pub mod sets;
+// The step of one node over its columns, which leaves out those in which it would fill nothing.
 pub mod stale;
-pub mod step;

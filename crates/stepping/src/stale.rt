@@ -1,13 +1,19 @@
 // The step of one node that leaves out the columns in which it would fill nothing: those on which nothing stale bears.
 ghost use mathlib.Core.Path.{_≡_};
-ghost use mathlib.Core.Bool.{_||_};
 ghost use Prim.Native.Nat.{_<_};
 ghost use lib.ListN.{length};
-ghost use Rattle.job.specs.Written.{Operands};
-ghost use Rattle.cells.specs.Rest.{columnByte, isStale, bears as bearsOn, BytesAre};
-ghost use Rattle.stepping.specs.Stale.{Resting, RestingColumn, ColumnWorked, Worked};
-use crate::step::step_column;
-use job::subformula::Subformula;
+ghost use Rattle.job.specs.Job.{subformulaCount};
+ghost use Rattle.job.specs.Rule.{InRange};
+ghost use Rattle.cells.specs.Rest.{columnByte, isStale, bears as bearsOn, Rested, BytesAre};
+ghost use Rattle.image.specs.Image.{jobOf};
+ghost use Rattle.table.specs.Lent.{Ready};
+ghost use Rattle.stepping.specs.Stale.{Resting, ColumnWorked, Worked};
+use columns::column::step_column;
+use image::image::Image;
+use image::image::subformula;
+use image::image::subformulas;
+use job::rule::Rule;
+use job::rule::rule_of;
 
 fn is_stale(stale: &[u8; 256], n: usize, k: usize) -> bool
     requires { ⌜ (n < 8) × (k < 32) ⌝ }
@@ -16,75 +22,44 @@ fn is_stale(stale: &[u8; 256], n: usize, k: usize) -> bool
     stale[n * 32 + k] != 0
 }
 
-fn one_stale(stale: &[u8; 256], n: usize, a: usize, b: usize) -> bool
-    requires { ⌜ (n < 8) × (a < 32) × (b < 32) ⌝ }
-    ensures { λ r. ⌜ r ≡ (isStale (now (stale .entry)) n a || isStale (now (stale .entry)) n b) ⌝ }
-{
-    if is_stale(stale, n, a) {
-        return true;
-    }
-    is_stale(stale, n, b)
-}
-
-// Whether a column that column k of node n reads is stale: its own, or one of an operand of its subformula f.
-fn bears(stale: &[u8; 256], n: usize, k: usize, f: Subformula) -> bool
-    requires { ⌜ (n < 8) × (k < 32) × Operands k f ⌝ }
-    ensures { λ r. ⌜ r ≡ bearsOn (now (stale .entry)) n k f ⌝ }
+// Whether a column that column k of node n reads is stale: its own, or one of an operand of its rule.
+fn bears(stale: &[u8; 256], n: usize, k: usize, rule: Rule) -> bool
+    requires { ⌜ (n < 8) × (k < 32) × InRange k rule ⌝ }
+    ensures { λ r. ⌜ r ≡ bearsOn (now (stale .entry)) n k rule ⌝ }
 {
     if is_stale(stale, n, k) {
         return true;
     }
-    match f {
-        Subformula::Atom(_) => false,
-        Subformula::Not(a) => is_stale(stale, n, a),
-        Subformula::And(a, b) => one_stale(stale, n, a, b),
-        Subformula::Ax(a) => is_stale(stale, n, a),
-        Subformula::Ex(a) => is_stale(stale, n, a),
-        Subformula::Au(a, b) => one_stale(stale, n, a, b),
-        Subformula::Eu(a, b) => one_stale(stale, n, a, b),
+    match rule {
+        Rule::Atom(_) => false,
+        Rule::Not(a) => is_stale(stale, n, a),
+        Rule::And(a, b) => is_stale(stale, n, a) | is_stale(stale, n, b),
+        Rule::Next(_, a) => is_stale(stale, n, a),
+        Rule::Sets(_, start, grow, _) => is_stale(stale, n, start) | is_stale(stale, n, grow),
     }
 }
 
-// Steps column k of node n, whose subformula is f, if something stale bears on it. Where that fills cells the column is marked, since
-// later columns may read it, and the subformula has news.
-fn work_column<'a>(
-    f: Subformula,
-    states: usize,
-    subformulas: usize,
-    labels: &'a [u16; 256],
-    first: &'a [u16; 257],
-    sources: &'a [u8; 2048],
-    targets: &'a [u8; 2048],
-    heads: &'a [u16; 256],
-    into: &'a [u16; 2048],
-    places: &'a [u8; 2048],
+// Steps column k of node n if something stale bears on it. Where that fills cells the column is marked, since later columns may read it,
+// and the subformula has news. Returns how many cells it fills.
+fn work_column(
+    m: &Image,
     table: &mut [u8],
     stale: &mut [u8; 256],
     news: &mut [u8; 32],
     n: usize,
     k: usize,
 ) -> usize
-    requires { ⌜ RestingColumn states subformulas (now labels) (now first) (now sources) (now targets) (now heads) (now into) (now places) (now table) n k f (now stale) (now news) ⌝ }
-    ensures { λ r. ⌜ ((w : RestingColumn states subformulas (now (labels .entry)) (now (first .entry)) (now (sources .entry)) (now (targets .entry)) (now (heads .entry)) (now (into .entry)) (now (places .entry)) (now (table .entry)) n k f (now (stale .entry)) (now (news .entry))) → ColumnWorked (w .column .node .job) n k (now (table .entry)) (now (stale .entry)) (now (news .entry)) (now (table .exit)) (now (stale .exit)) (now (news .exit)) r) ⌝ }
+    requires { ⌜ Resting (now m) (now table) n (now stale) (now news) ⌝ }
+    requires { ⌜ k < subformulaCount (jobOf (now m)) ⌝ }
+    ensures { λ r. ⌜
+        ColumnWorked (jobOf (now (m .entry))) n k (now (table .entry)) (now (stale .entry)) (now (news .entry))
+        (now (table .exit)) (now (stale .exit)) (now (news .exit)) r
+        ⌝ }
 {
-    if !bears(stale, n, k, f) {
+    if !bears(stale, n, k, rule_of(subformula(m, k))) {
         return 0;
     }
-    let filled = step_column(
-        f,
-        states,
-        subformulas,
-        labels,
-        first,
-        sources,
-        targets,
-        heads,
-        into,
-        places,
-        table,
-        n,
-        k,
-    );
+    let filled = step_column(m, table, n, k);
     if filled == 0 {
         return 0;
     }
@@ -104,46 +79,25 @@ fn clear_row(stale: &mut [u8; 256], n: usize)
 }
 
 // The step of node n. Returns how many cells it fills.
-pub fn step_stale<'a>(
-    formula: [Subformula; 32],
-    states: usize,
-    subformulas: usize,
-    labels: &'a [u16; 256],
-    first: &'a [u16; 257],
-    sources: &'a [u8; 2048],
-    targets: &'a [u8; 2048],
-    heads: &'a [u16; 256],
-    into: &'a [u16; 2048],
-    places: &'a [u8; 2048],
+pub fn step_stale(
+    m: &Image,
     table: &mut [u8],
     stale: &mut [u8; 256],
     news: &mut [u8; 32],
     n: usize,
 ) -> usize
-    requires { ⌜ Resting states subformulas (now labels) (now first) (now sources) (now targets) (now heads) (now into) (now places) (now table) n formula (now stale) (now news) ⌝ }
-    ensures { λ r. ⌜ ((w : Resting states subformulas (now (labels .entry)) (now (first .entry)) (now (sources .entry)) (now (targets .entry)) (now (heads .entry)) (now (into .entry)) (now (places .entry)) (now (table .entry)) n formula (now (stale .entry)) (now (news .entry))) → Worked (w .node .job) n (now (table .entry)) (now (stale .entry)) (now (news .entry)) (now (table .exit)) (now (stale .exit)) (now (news .exit)) r) ⌝ }
+    requires { ⌜ Ready (now m) (now table) ⌝ }
+    requires { ⌜ n < jobOf (now m) .nodes ⌝ }
+    requires { ⌜ (length (now stale) ≡ 256) × (length (now news) ≡ 32) ⌝ }
+    requires { ⌜ Rested (jobOf (now m)) n (now stale) (now table) ⌝ }
+    ensures { λ r. ⌜
+        Worked (jobOf (now (m .entry))) n (now (table .entry)) (now (stale .entry)) (now (news .entry))
+        (now (table .exit)) (now (stale .exit)) (now (news .exit)) r
+        ⌝ }
 {
     let mut count = 0;
-    for k in 0..subformulas {
-        let f = formula[k];
-        let filled = work_column(
-            f,
-            states,
-            subformulas,
-            labels,
-            first,
-            sources,
-            targets,
-            heads,
-            into,
-            places,
-            table,
-            stale,
-            news,
-            n,
-            k,
-        );
-        count += filled;
+    for k in 0..subformulas(m) {
+        count += work_column(m, table, stale, news, n, k);
     }
     clear_row(stale, n);
     count

@@ -1,149 +1,95 @@
--- `finish`: the head of every call, the rounds, and the owner's cell of state 0 and the whole formula.
+-- `finish`: the head of every call, and the rounds.
+use Prim.Native.Nat.{ℕ, _-_}
 use mathlib.Core.Path.{_≡_, refl, sym, ap, _∙_}
-use Rattle.law.specs.Lists.{firstNo}
-use Rattle.job.specs.Answer.{accepted}
-use Rattle.job.specs.Layout.{Text}
-use Rattle.job.specs.Job.{decode}
+use mathlib.Core.List.{List}
 use Rattle.job.specs.Read.{readTold, readAnswer}
 use Rattle.job.specs.declared.reader.Reading.the-variants.{Accepted}
-use Rattle.cells.specs.Table.{Table}
-use Rattle.cells.specs.Finish.{finish}
-use Rattle.cells.specs.Calls.{Call, ownQuestions, width, left}
+use Rattle.cells.specs.Calls.{Call, width, told, left, answer, after}
 use Rattle.cells.proofs.CallLaws.{reading-refused}
-use Rattle.cells.proofs.Finish.{finish-rounds}
-use Rattle.exchange.proofs.FromHeld.{held-owners}
-use Rattle.calls.specs.Ready.{Ready}
 use Rattle.calls.specs.Told.{finishTold, finishRounds}
-use Rattle.calls.proofs.HeadLaws.{opened-ready, table-refused, rest-accepted}
-use Rattle.calls.proofs.ReadyLaws.{ready-sized}
-use Rattle.calls.proofs.FinishLaws.{finished-ready, finished-told}
-use native.Mathlib.Omega.{arith}
+use Rattle.calls.proofs.HeadLaws.{head-refused, head-accepted}
+use Rattle.job.specs.Answer.{accepted}
+use Rattle.cells.specs.Table.{Table}
+use Rattle.image.specs.Image.{jobOf}
+use Rattle.table.specs.Lent.{Ready}
+use Rattle.questions.proofs.NoLaws.{table-ready}
+use Rattle.calls.proofs.FinishLaws.{finished-told, finished-rounds}
+use Rattle.rounds.proofs.ReadyLaws.{finished-ready}
 use borrow.Author.Needs.{needs}
+use native.Mathlib.Omega.{arith}
 use Rattle.calls.proofs.finish.finish.Statement.{statement}
 use Rattle.calls.proofs.finish.finish.Tie as tie
-
-read-requires : tie.Need-read-requires
-read-requires c κs = search needs
-
-enum-known-reading : tie.Need-enum-known-reading
-enum-known-reading c = search needs
-
-enum-told : tie.Need-enum-told
-enum-told c = search needs
-
-refused-by-requires : tie.Need-refused-by-requires
-refused-by-requires c κs = search needs
 
 returns : tie.Need-returns
 unfolding finishTold finishRounds width
 returns c =
     let a = c .before .before .before .before .before .before .args in
-    let (answer-is, after-is) =
-    reading-refused Call.finish (a .text .now) (a .table .now) _ _ _ (c .before .before .before .read .ensures) (c .before .enum-told .given .1) (c .refused-by .ensures)
-    in
-    (answer-is, (after-is, omega arith))
+    let (told-is, left-is) =
+    reading-refused Call.finish (a .text .now) (a .table .now) _ _ _ (c .before .before .before .read .ensures) (c .before .enum-told .given .1) (c .refused-by .ensures) in
+    (told-is, (left-is, omega arith))
 
--- the reader's answer, accepted
-told-here :
-    (c : tie.After-known-told) → readTold (Accepted (c .before .reading .given .0 .0)) ≡ readAnswer (c .before .before .before .before .before .before .args .text .now)
+-- the reader accepts
+told-here : (c : tie.After-known-told) → readTold (Accepted (c .before .reading .given .0 .0)) ≡ readAnswer (c .before .before .before .before .before .before .args .text .now)
 told-here c = sym (ap readTold (c .before .reading .given .1)) ∙ c .before .before .before .read .ensures
 
-prepare-requires : tie.Need-prepare-requires
-prepare-requires c κs = told-here (c .before)
-
--- what was passed
-abbrev text-of : tie.After-prepare → Text
-text-of c = c .before .before .before .before .before .before .before .before .args .text .now
-
-abbrev table-of : tie.After-prepare → Table
-table-of c = c .before .before .before .before .before .before .before .before .args .table .now
-
-same-length : tie.Need-same-length
-same-length c = search needs
+decode-requires : tie.Need-decode-requires
+decode-requires c κs = (told-here (c .before), refl)
 
 returns-2 : tie.Need-returns-2
-unfolding finishTold finishRounds ownQuestions width
+unfolding finishTold finishRounds width
 returns-2 c =
-    let p = c .before in
-    let (answer-is, after-is) =
-    table-refused _ _ _ (p .prepare .ensures .0) (table-of p) _ (p .prepare .ensures .1) Call.finish _ refl (c .if1 .taken)
-    in
-    (answer-is, (after-is, omega arith))
+    let a = c .before .before .before .before .before .before .before .before .before .before .before .before .before .args in
+    let p = c .before .before .before .before .before in
+    let (told-is, left-is) =
+    head-refused Call.finish (a .text .now) (a .table .now) _ (told-here (p .before .before)) _ (p .decode .ensures .1) _ (c .before .before .table-no .ensures) (c .by .result) (c .by .ensures) (c .before .if1 .taken) in
+    (told-is, (left-is, omega arith))
 
-formula-requires : tie.Need-formula-requires
-formula-requires c κs = told-here (c .before .before .before .before)
+-- all questions are answered yes
+module _ (c : tie.Else1) where
+  abbrev start-of : tie.Start
+  start-of = c .before .before .before .before .before .before .before .before .before .before .before .before
 
-ready-here :
-    (c : tie.After-formula)
-    → Ready (decode (text-of (c .before .before .before))) (c .before .before .before .prepare .result .machine) (c .formula .result) (c .before .before .before .prepare .result .places) (table-of (c .before .before .before))
-ready-here c =
-    let p = c .before .before .before in
-    let (o, no-is) = p .prepare .ensures in
-    opened-ready _ _ _ o (table-of p) _ no-is (c .before .before .if1 .left) (c .formula .result) (c .formula .ensures)
+  abbrev decoded : tie.After-decode
+  decoded = c .before .before .before .before
+
+  abbrev m : List ℕ
+  m = decoded .decode .last .1 .1 .0
+
+  abbrev t : Table
+  t = start-of .args .table .now
+
+  fine : Ready m t
+  fine = table-ready _ _ (decoded .decode .ensures .0) _ (c .before .table-no .ensures) (c .if1 .left)
+
+  done :
+      let a = start-of .args in
+      (accepted (told (Call.finish) (jobOf m) t) ≡ answer (Call.finish) (a .text .now) t) × (left (Call.finish) (jobOf m) t ≡ after (Call.finish) (a .text .now) t)
+  done =
+      let a = start-of .args in
+      head-accepted (Call.finish) (a .text .now) t _ (told-here (decoded .before .before)) m (decoded .decode .ensures .1) _ (c .before .table-no .ensures) (c .if1 .left)
 
 run-requires : tie.Need-run-requires
-run-requires c κs = (_, ready-here (c .before .before .before))
-
--- the rounds are done
-module _ (c : tie.After-run) where
-  abbrev prepared : tie.After-prepare
-  prepared = c .before .before .before .before .before .before .before
-
-  done-here :
-      (c .run .last .1 .1 .1 .0 ≡ finish (decode (text-of prepared)) (table-of prepared) .table)
-      × (c .run .result .rounds ≡ finish (decode (text-of prepared)) (table-of prepared) .rounds)
-      × (c .run .result .cells ≡ finish (decode (text-of prepared)) (table-of prepared) .cells)
-  done-here = c .run .ensures (decode (text-of prepared)) (ready-here (c .before .before .before .before))
-
-  left-here :
-      Ready (decode (text-of prepared)) (prepared .prepare .result .machine) (c .before .before .before .before .formula .result) (prepared .prepare .result .places) (c .run .last .1 .1 .1 .0)
-  left-here = finished-ready (ready-here (c .before .before .before .before)) _ (done-here .0)
-
-sub-owner-cell : tie.Need-sub-owner-cell
-sub-owner-cell c = search needs
+run-requires c κs = fine (c .before .before)
 
 owner-cell-requires : tie.Need-owner-cell-requires
 owner-cell-requires c κs =
-    let z = left-here (c .before .before .before .before .before) in
-    let wide = z .held .job .states .above in
-    let deep = z .held .job .subformulas .above in
-    ((_, ready-sized z, held-owners _ _ _ _ (z .held)), (omega (arith, z .held .decoded .states-are), omega (arith, z .held .decoded .subformulas-are)))
-
-same-length-2 : tie.Need-same-length-2
-same-length-2 c = search needs
+    let e = c .before .before .before .before .before .before .before .before .before in
+    let after-run = finished-ready (fine e) _ (c .before .before .before .before .before .before .run .ensures .0) in
+    let job = after-run .lent .image .is-job in
+    (after-run .lent, (job .states .above, omega (arith, job .subformulas .above)))
 
 returns-3 : tie.Need-returns-3
-unfolding finishTold finishRounds ownQuestions left firstNo width
+unfolding finishTold finishRounds left
 returns-3 c =
-    let r = c .before .before .before .before .before .before in
-    let p = prepared r in
-    let f = r .before .before .before .before in
-    let (o, no-is) = p .prepare .ensures in
-    let (table-is, rounds-are, cells-are) = done-here r in
-    let z = left-here r in
-    let read = c .owner-cell .ensures (decode (text-of p)) (ready-sized z) (held-owners _ _ _ _ (z .held)) in
-    let (answer-is, after-is) =
-    rest-accepted _ _ _ o (table-of p) _ no-is Call.finish _ refl (f .before .before .if1 .left) refl
-    in (
-      ap accepted (finished-told (ready-here f) _ table-is _ _ _ rounds-are cells-are read) ∙ answer-is,
-      (table-is ∙ after-is, omega (arith, rounds-are, finish-rounds (decode (text-of p)) (table-of p))),
+    let e = c .before .before .before .before .before .before .before .before .before .before in
+    let (table-is, (rounds-are, cells-are)) = c .before .before .before .before .before .before .before .run .ensures in
+    let all = c .before .subformulas .ensures .0 in (
+      ap accepted (finished-told _ _ _ _ _ _ _ table-is rounds-are cells-are all (c .owner-cell .ensures)) ∙ done e .0,
+      (table-is ∙ done e .1, finished-rounds _ _ _ 0 _ 0 0 table-is rounds-are _ (decoded e .decode .ensures .1)),
     )
 
 pub finish-spec : {M : Type 1} → statement M
 finish-spec =
-    tie.close
-    (tie.spec
-    read-requires
-    enum-known-reading
-    enum-told
-    refused-by-requires
-    returns
-    prepare-requires
-    same-length
-    returns-2
-    formula-requires
-    run-requires
-    sub-owner-cell
-    owner-cell-requires
-    same-length-2
-    returns-3)
+    let first = tie.spec (λ c κs. search needs) (λ c. search needs) (λ c. search needs) (λ c κs. search needs) returns decode-requires in
+    let second = first (λ c κs. search needs) (λ c κs. search needs) (λ c. search needs) returns-2 run-requires (λ c κs. search needs) in
+    tie.close (second (λ c. search needs) owner-cell-requires (λ c. search needs) returns-3)

@@ -8,9 +8,6 @@ use Rattle.job.proofs.layout.fields_in.Tie as tie
 returns : tie.Need-returns
 returns c = λ t same. sym (fields-four t _ (c .if1 .taken))
 
-add-if2 : tie.Need-add-if2
-add-if2 c = search needs
-
 returns-2 : tie.Need-returns-2
 returns-2 c = λ t same. sym (fields-two t _ _ same (c .before .if1 .left) (c .if2 .taken))
 
@@ -18,4 +15,4 @@ returns-3 : tie.Need-returns-3
 returns-3 c = λ t same. sym (fields-three t _ _ same (c .before .if1 .left) (c .if2 .left))
 
 pub fields-in-spec : {M : Type 1} → statement M
-fields-in-spec = tie.close (tie.spec returns add-if2 returns-2 returns-3)
+fields-in-spec = tie.close (tie.spec returns (λ c. search needs) returns-2 returns-3)

@@ -2,7 +2,8 @@
 use Prim.Native.Nat.{ℕ, _+_, _*_, _<_}
 use mathlib.Core.Path.{_≡_, sym, ap, _∙_}
 use lib.ListN.{length}
-use Rattle.job.specs.Layout.{Text, fieldsOf, lineAt}
+use Rattle.text.specs.Field.{Text}
+use Rattle.job.specs.Layout.{fieldsOf, lineAt}
 use Rattle.job.specs.Read.{readTold}
 use Rattle.job.specs.Leaves.{Fits}
 use Rattle.job.specs.declared.reader.Header.{Header}
@@ -11,15 +12,6 @@ use native.Mathlib.Omega.{arith}
 use borrow.Author.Needs.{needs}
 use Rattle.job.proofs.layout.line_part.Statement.{statement}
 use Rattle.job.proofs.layout.line_part.Tie as tie
-
-head-requires : tie.Need-head-requires
-head-requires c κs = search needs
-
-enum-known-head : tie.Need-enum-known-head
-enum-known-head c = search needs
-
-enum-told : tie.Need-enum-told
-enum-told c = search needs
 
 -- the text and line 1's numbers where the head accepts, and what it says of them
 abbrev text-of : tie.After-known-told → Text
@@ -105,18 +97,5 @@ returns-4 c =
 
 pub line-part-spec : {M : Type 1} → statement M
 line-part-spec =
-    tie.close
-    (tie.spec
-    head-requires
-    enum-known-head
-    enum-told
-    returns
-    add-pairs
-    returns-2
-    add-if2
-    add-if2-2
-    returns-3
-    line-start-requires
-    fields-in-requires
-    mul-t9
-    returns-4)
+    let first = tie.spec (λ c κs. search needs) (λ c. search needs) (λ c. search needs) returns add-pairs returns-2 add-if2 add-if2-2 returns-3 in
+    tie.close (first line-start-requires fields-in-requires mul-t9 returns-4)

@@ -10,7 +10,8 @@ use native.Mathlib.Nat.{not-suc-le-zero}
 use Rattle.law.specs.Bounded.{first}
 use Rattle.job.specs.Leaves.{Fits}
 use Rattle.job.specs.declared.reader.Header.{Header}
-use Rattle.job.specs.Layout.{Text, source, target}
+use Rattle.text.specs.Field.{Text}
+use Rattle.job.specs.Layout.{source, target}
 use Rattle.job.specs.Questions.{less, edgeOk}
 use Rattle.job.proofs.ReaderLaws.{source-is, target-is, edge-no-source, edge-no-target, edge-no-follow, edge-passes}
 use borrow.Author.Needs.{needs}
@@ -28,24 +29,6 @@ abbrev μ-loop : tie.MeasureT-loop
 
 loop-holds : tie.Need-loop-holds Inv-loop μ-loop
 loop-holds c = (search needs, below-none _, λ l. absurd (not-suc-le-zero l))
-
-add-at : tie.Need-add-at Inv-loop μ-loop
-add-at c = search needs
-
-mul-at : tie.Need-mul-at Inv-loop μ-loop
-mul-at c = search needs
-
-add-at-2 : tie.Need-add-at-2 Inv-loop μ-loop
-add-at-2 c = search needs
-
-number-requires : tie.Need-number-requires Inv-loop μ-loop
-number-requires c κs = search needs
-
-add-number : tie.Need-add-number Inv-loop μ-loop
-add-number c = search needs
-
-number-requires-2 : tie.Need-number-requires-2 Inv-loop μ-loop
-number-requires-2 c κs = search needs
 
 -- where both numbers of an edge line are read
 module _ (c : tie.After-number2 Inv-loop μ-loop) where
@@ -85,9 +68,6 @@ returns-2 c =
     let e = target-here p in
     bad p (edge-no-target (text-of p) (header-of p) (pre-of p) (edge-of p) (omega arith))
 
-follows-requires : tie.Need-follows-requires Inv-loop μ-loop
-follows-requires c κs = search needs
-
 followed :
     (c : tie.After-follows Inv-loop μ-loop)
     → c .follows .result
@@ -106,12 +86,6 @@ returns-3 c =
     bad p
     (edge-no-follow (text-of p) (header-of p) (pre-of p) (edge-of p) _ _ (kept p)
     (sym (followed (c .before)) ∙ not-true _ (c .if3 .taken)))
-
-add-e : tie.Need-add-e Inv-loop μ-loop
-add-e c = search needs
-
-loop-less : tie.Need-loop-less Inv-loop μ-loop
-loop-less c = search needs
 
 loop-again : tie.Need-loop-again Inv-loop μ-loop
 loop-again c =
@@ -135,22 +109,6 @@ returns-4 c =
 
 pub bad-edge-spec : {M : Type 1} → statement M
 bad-edge-spec =
-    tie.close
-    (tie.spec
-    Inv-loop
-    μ-loop
-    loop-holds
-    add-at
-    mul-at
-    add-at-2
-    number-requires
-    add-number
-    number-requires-2
-    returns
-    returns-2
-    follows-requires
-    returns-3
-    add-e
-    loop-less
-    loop-again
-    returns-4)
+    let first = tie.spec Inv-loop μ-loop loop-holds (λ c. search needs) (λ c. search needs) (λ c. search needs) (λ c κs. search needs) in
+    let second = first (λ c. search needs) (λ c κs. search needs) returns returns-2 (λ c κs. search needs) returns-3 (λ c. search needs) in
+    tie.close (second (λ c. search needs) loop-again returns-4)

@@ -20,15 +20,6 @@ abbrev μ-loop : tie.MeasureT-loop
 loop-holds : tie.Need-loop-holds Inv-loop μ-loop
 loop-holds c = (search needs, below-none _)
 
-mul-at : tie.Need-mul-at Inv-loop μ-loop
-mul-at c = search needs
-
-add-at : tie.Need-add-at Inv-loop μ-loop
-add-at c = search needs
-
-number-requires : tie.Need-number-requires Inv-loop μ-loop
-number-requires c κs = search needs
-
 returns : tie.Need-returns Inv-loop μ-loop
 returns c =
     let a = c .before .before .before .before .before in
@@ -38,12 +29,6 @@ returns c =
     (first-fails (stateOk (a .args .text .now)) (a .args .h .states) (l .s) (omega arith) (l .inv .1)
     (state-no-owner (a .args .text .now) (a .args .h) (a .pre) (l .s) (omega arith)))
 
-add-number : tie.Need-add-number Inv-loop μ-loop
-add-number c = search needs
-
-number-requires-2 : tie.Need-number-requires-2 Inv-loop μ-loop
-number-requires-2 c κs = search needs
-
 returns-2 : tie.Need-returns-2 Inv-loop μ-loop
 returns-2 c =
     let a = c .before .before .before .before .before .before .before in
@@ -52,12 +37,6 @@ returns-2 c =
     sym
     (first-fails (stateOk (a .args .text .now)) (a .args .h .states) (l .s) (omega arith) (l .inv .1)
     (state-no-label (a .args .text .now) (a .args .h) (a .pre) (l .s) (omega arith)))
-
-add-s : tie.Need-add-s Inv-loop μ-loop
-add-s c = search needs
-
-loop-less : tie.Need-loop-less Inv-loop μ-loop
-loop-less c = search needs
 
 loop-again : tie.Need-loop-again Inv-loop μ-loop
 loop-again c =
@@ -77,19 +56,5 @@ returns-3 c =
 
 pub bad-state-spec : {M : Type 1} → statement M
 bad-state-spec =
-    tie.close
-    (tie.spec
-    Inv-loop
-    μ-loop
-    loop-holds
-    mul-at
-    add-at
-    number-requires
-    returns
-    add-number
-    number-requires-2
-    returns-2
-    add-s
-    loop-less
-    loop-again
-    returns-3)
+    let first = tie.spec Inv-loop μ-loop loop-holds (λ c. search needs) (λ c. search needs) (λ c κs. search needs) returns (λ c. search needs) in
+    tie.close (first (λ c κs. search needs) returns-2 (λ c. search needs) (λ c. search needs) loop-again returns-3)

@@ -7,11 +7,8 @@ use Rattle.job.proofs.reader.follows.Tie as tie
 returns : tie.Need-returns
 returns c = simp (eq-eqb _ _ (c .if1 .taken))
 
-is-less-requires : tie.Need-is-less-requires
-is-less-requires c κs = search needs
-
 returns-2 : tie.Need-returns-2
 returns-2 c = simp (ne-eqb _ _ (c .before .if1 .left)) (c .is-less .ensures)
 
 pub follows-spec : {M : Type 1} → statement M
-follows-spec = tie.close (tie.spec returns is-less-requires returns-2)
+follows-spec = tie.close (tie.spec returns (λ c κs. search needs) returns-2)

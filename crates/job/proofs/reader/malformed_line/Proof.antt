@@ -6,7 +6,8 @@ use borrow.Author.Count.{below-none, below-more}
 use Rattle.law.proofs.Bounded.{first-fails, first-none-fails}
 use borrow.Author.Tests.{not-true, not-false}
 use lib.ListN.{length}
-use Rattle.job.specs.Layout.{Text, formed, fieldsOf, lineAt}
+use Rattle.text.specs.Field.{Text, formed}
+use Rattle.job.specs.Layout.{fieldsOf, lineAt}
 use Rattle.job.specs.Questions.{formedLine}
 use Rattle.job.proofs.LayoutLaws.{fields-few, line-inside}
 use borrow.Author.Needs.{needs}
@@ -28,18 +29,6 @@ add-count c = let f = c .before .before .before .pre in omega arith
 
 loop-holds : tie.Need-loop-holds Inv-loop μ-loop
 loop-holds c = (search needs, below-none _)
-
-add-line-start : tie.Need-add-line-start Inv-loop μ-loop
-add-line-start c = search needs
-
-line-start-requires : tie.Need-line-start-requires Inv-loop μ-loop
-line-start-requires c κs = search needs
-
-add-fields-in : tie.Need-add-fields-in Inv-loop μ-loop
-add-fields-in c = search needs
-
-fields-in-requires : tie.Need-fields-in-requires Inv-loop μ-loop
-fields-in-requires c κs = search needs
 
 -- where the offset and the number of fields of a line are known
 module _ (c : tie.After-fields-in Inv-loop μ-loop) where
@@ -78,12 +67,6 @@ returns c =
     (first-fails (formedLine (text-of p)) _ (line-of p) (omega arith) (l .inv .1)
     (sym (formed-is (c .before)) ∙ not-true _ (c .if1 .taken)))
 
-add-i : tie.Need-add-i Inv-loop μ-loop
-add-i c = search needs
-
-loop-less : tie.Need-loop-less Inv-loop μ-loop
-loop-less c = search needs
-
 loop-again : tie.Need-loop-again Inv-loop μ-loop
 loop-again c =
     let l = c .before .before .before .before .before .loop in
@@ -97,20 +80,5 @@ returns-2 c =
 
 pub malformed-line-spec : {M : Type 1} → statement M
 malformed-line-spec =
-    tie.close
-    (tie.spec
-    Inv-loop
-    μ-loop
-    add-pairs
-    add-count
-    loop-holds
-    add-line-start
-    line-start-requires
-    add-fields-in
-    fields-in-requires
-    is-formed-requires
-    returns
-    add-i
-    loop-less
-    loop-again
-    returns-2)
+    let first = tie.spec Inv-loop μ-loop add-pairs add-count loop-holds (λ c. search needs) (λ c κs. search needs) (λ c. search needs) in
+    tie.close (first (λ c κs. search needs) is-formed-requires returns (λ c. search needs) (λ c. search needs) loop-again returns-2)

@@ -5,12 +5,6 @@ use borrow.Author.Needs.{needs}
 use Rattle.job.proofs.reader.refused_by.Statement.{statement}
 use Rattle.job.proofs.reader.refused_by.Tie as tie
 
-enum-told : tie.Need-enum-told
-enum-told c = search needs
-
-enum-known-r : tie.Need-enum-known-r
-enum-known-r c = search needs
-
 returns : tie.Need-returns
 unfolding refusalOf
 returns c = ap refusalOf (sym (c .enum-told .given .1))
@@ -20,4 +14,4 @@ unfolding refusalOf
 returns-2 c = ap refusalOf (sym (c .before .r .given .1))
 
 pub refused-by-spec : {M : Type 1} → statement M
-refused-by-spec = tie.close (tie.spec enum-told enum-known-r returns returns-2)
+refused-by-spec = tie.close (tie.spec (λ c. search needs) (λ c. search needs) returns returns-2)

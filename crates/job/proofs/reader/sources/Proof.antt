@@ -19,18 +19,6 @@ abbrev μ-loop : tie.MeasureT-loop
 loop-holds : tie.Need-loop-holds Inv-loop μ-loop
 loop-holds c = (search needs, refl, λ s g. getD-replicate 256 s 0 0 g ∙ sym (marked-none (c .before .args .text .now) s))
 
-add-number : tie.Need-add-number Inv-loop μ-loop
-add-number c = search needs
-
-mul-number : tie.Need-mul-number Inv-loop μ-loop
-mul-number c = search needs
-
-add-number-2 : tie.Need-add-number-2 Inv-loop μ-loop
-add-number-2 c = search needs
-
-number-requires : tie.Need-number-requires Inv-loop μ-loop
-number-requires c κs = search needs
-
 -- the state that an edge line starts from
 module _ (c : tie.After-number Inv-loop μ-loop) where
   abbrev start-of : tie.Start Inv-loop μ-loop
@@ -46,12 +34,6 @@ module _ (c : tie.After-number Inv-loop μ-loop) where
 
 array-write-found : tie.Need-array-write-found Inv-loop μ-loop
 array-write-found c = let e = source-here c in let h = source-small c in omega arith
-
-add-e : tie.Need-add-e Inv-loop μ-loop
-add-e c = search needs
-
-loop-less : tie.Need-loop-less Inv-loop μ-loop
-loop-less c = search needs
 
 loop-again : tie.Need-loop-again Inv-loop μ-loop
 loop-again c =
@@ -75,17 +57,5 @@ returns c =
 
 pub sources-spec : {M : Type 1} → statement M
 sources-spec =
-    tie.close
-    (tie.spec
-    Inv-loop
-    μ-loop
-    loop-holds
-    add-number
-    mul-number
-    add-number-2
-    number-requires
-    array-write-found
-    add-e
-    loop-less
-    loop-again
-    returns)
+    let first = tie.spec Inv-loop μ-loop loop-holds (λ c. search needs) (λ c. search needs) (λ c. search needs) (λ c κs. search needs) in
+    tie.close (first array-write-found (λ c. search needs) (λ c. search needs) loop-again returns)

@@ -17,14 +17,8 @@ Inv-loop text states found s₀ s = (s ≤ states) × ((j : ℕ) → j < s → h
 abbrev μ-loop : tie.MeasureT-loop
 μ-loop text states found s₀ s = states - s
 
-sources-requires : tie.Need-sources-requires Inv-loop μ-loop
-sources-requires c κs = search needs
-
 loop-holds : tie.Need-loop-holds Inv-loop μ-loop
 loop-holds c = (search needs, below-none _)
-
-array-read-if1 : tie.Need-array-read-if1 Inv-loop μ-loop
-array-read-if1 c = search needs
 
 returns : tie.Need-returns Inv-loop μ-loop
 returns c =
@@ -34,12 +28,6 @@ returns c =
     sym
     (first-fails (hasEdgeOut (a .args .text .now)) (a .args .h .states) (l .s) (omega arith) (l .inv .1)
     (mark-none _ (c .before .before .before .sources .ensures (l .s) (omega arith)) (c .if1 .taken)))
-
-add-s : tie.Need-add-s Inv-loop μ-loop
-add-s c = search needs
-
-loop-less : tie.Need-loop-less Inv-loop μ-loop
-loop-less c = search needs
 
 loop-again : tie.Need-loop-again Inv-loop μ-loop
 loop-again c =
@@ -56,15 +44,5 @@ returns-2 c =
 
 pub state-without-edge-spec : {M : Type 1} → statement M
 state-without-edge-spec =
-    tie.close
-    (tie.spec
-    Inv-loop
-    μ-loop
-    sources-requires
-    loop-holds
-    array-read-if1
-    returns
-    add-s
-    loop-less
-    loop-again
-    returns-2)
+    let first = tie.spec Inv-loop μ-loop (λ c κs. search needs) loop-holds (λ c. search needs) returns (λ c. search needs) (λ c. search needs) in
+    tie.close (first loop-again returns-2)

@@ -7,27 +7,6 @@ use borrow.Author.Needs.{needs}
 use Rattle.job.proofs.subformula.parse.Statement.{statement}
 use Rattle.job.proofs.subformula.parse.Tie as tie
 
-atom-requires : tie.Need-atom-requires
-atom-requires c κs = search needs
-
-one-operand-requires : tie.Need-one-operand-requires
-one-operand-requires c κs = search needs
-
-two-operands-requires : tie.Need-two-operands-requires
-two-operands-requires c κs = search needs
-
-one-operand-requires-2 : tie.Need-one-operand-requires-2
-one-operand-requires-2 c κs = search needs
-
-one-operand-requires-3 : tie.Need-one-operand-requires-3
-one-operand-requires-3 c κs = search needs
-
-two-operands-requires-2 : tie.Need-two-operands-requires-2
-two-operands-requires-2 c κs = search needs
-
-two-operands-requires-3 : tie.Need-two-operands-requires-3
-two-operands-requires-3 c κs = search needs
-
 -- the kind that an arm knows
 by-kind : (k a b : ℕ) {kind n : ℕ} → kind ≡ n → parsed k n a b ≡ parsed k kind a b
 by-kind k a b e = sym (ap (λ n. parsed k n a b) e)
@@ -76,20 +55,6 @@ returns-8 c =
 
 pub parse-spec : {M : Type 1} → statement M
 parse-spec =
-    tie.close
-    (tie.spec
-    atom-requires
-    one-operand-requires
-    two-operands-requires
-    one-operand-requires-2
-    one-operand-requires-3
-    two-operands-requires-2
-    two-operands-requires-3
-    returns
-    returns-2
-    returns-3
-    returns-4
-    returns-5
-    returns-6
-    returns-7
-    returns-8)
+    let first = tie.spec (λ c κs. search needs) (λ c κs. search needs) (λ c κs. search needs) (λ c κs. search needs) (λ c κs. search needs) in
+    let second = first (λ c κs. search needs) (λ c κs. search needs) returns returns-2 returns-3 returns-4 returns-5 returns-6 returns-7 in
+    tie.close (second returns-8)

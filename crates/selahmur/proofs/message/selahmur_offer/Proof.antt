@@ -7,36 +7,6 @@ use borrow.Author.Needs.{needs}
 use Rattle.selahmur.proofs.message.selahmur_offer.Statement.{statement}
 use Rattle.selahmur.proofs.message.selahmur_offer.Tie as tie
 
-offer-requires : tie.Need-offer-requires
-offer-requires c κs = search needs
-
-enum-known-m : tie.Need-enum-known-m
-enum-known-m c = search needs
-
-cast-t13 : tie.Need-cast-t13
-cast-t13 c = search needs
-
-slice-aggregate-store : tie.Need-slice-aggregate-store
-slice-aggregate-store c = search needs
-
-store-requires : tie.Need-store-requires
-store-requires c κs = search needs
-
-enum-known-why : tie.Need-enum-known-why
-enum-known-why c = search needs
-
-cast-t20 : tie.Need-cast-t20
-cast-t20 c = search needs
-
-slice-aggregate-store-2 : tie.Need-slice-aggregate-store-2
-slice-aggregate-store-2 c = search needs
-
-store-requires-2 : tie.Need-store-requires-2
-store-requires-2 c κs = search needs
-
-same-length : tie.Need-same-length
-same-length c = search needs
-
 returns : tie.Need-returns
 unfolding offerTold numbers
 returns c =
@@ -46,9 +16,6 @@ returns c =
           (c .before .before .store .ensures),
       s .offer .ensures .1,
     )
-
-same-length-2 : tie.Need-same-length-2
-same-length-2 c = search needs
 
 returns-2 : tie.Need-returns-2
 unfolding offerTold numbers
@@ -62,18 +29,6 @@ returns-2 c =
 
 pub selahmur-offer-spec : {M : Type 1} → statement M
 selahmur-offer-spec =
-    tie.close
-    (tie.spec
-    offer-requires
-    enum-known-m
-    cast-t13
-    slice-aggregate-store
-    store-requires
-    enum-known-why
-    cast-t20
-    slice-aggregate-store-2
-    store-requires-2
-    same-length
-    returns
-    same-length-2
-    returns-2)
+    let first = tie.spec (λ c κs. search needs) (λ c. search needs) (λ c. search needs) (λ c. search needs) (λ c κs. search needs) in
+    let second = first (λ c. search needs) (λ c. search needs) (λ c. search needs) (λ c κs. search needs) (λ c. search needs) returns in
+    tie.close (second (λ c. search needs) returns-2)

@@ -1,18 +1,33 @@
--- `joins`: only a state that may.
-use mathlib.Core.Path.{_∙_}
-use borrow.Author.Tests.{eq-eqb, ne-eqb}
+-- `joins`: only a state that may, and where that many of its edges are told.
+use borrow.Author.Tests.{ne-eqb}
 use borrow.Author.Needs.{needs}
+use Rattle.spread.proofs.Tally.{run-is, joins-all, joins-some}
 use Rattle.spread.proofs.spread.joins.Statement.{statement}
 use Rattle.spread.proofs.spread.joins.Tie as tie
 
 returns : tie.Need-returns
 returns c = simp (ne-eqb _ _ (c .if1 .taken))
 
-is-enough-requires : tie.Need-is-enough-requires
-is-enough-requires c κs = search needs
+sub-result : tie.Need-sub-result
+sub-result c =
+    run-is _ _ _ _ (c .first-edge2 .ensures .0) (c .before .first-edge .ensures .0) .0
 
 returns-2 : tie.Need-returns-2
-returns-2 c = c .is-enough .ensures ∙ simp (eq-eqb _ _ (c .before .if1 .left))
+returns-2 c =
+    joins-all _ _ _ _ _ _ _ (c .before .before .before .if1 .left) (c .before .before .if2 .taken)
+    (c .first-edge2 .ensures .0) (c .before .first-edge .ensures .0)
+
+returns-3 : tie.Need-returns-3
+returns-3 c = joins-some _ _ _ _ (c .before .if1 .left) (c .if2 .left)
 
 pub joins-spec : {M : Type 1} → statement M
-joins-spec = tie.close (tie.spec returns is-enough-requires returns-2)
+joins-spec =
+    tie.close
+    (tie.spec
+    returns
+    (λ c. search needs)
+    (λ c κs. search needs)
+    (λ c κs. search needs)
+    sub-result
+    returns-2
+    returns-3)

@@ -1,114 +1,70 @@
--- `start`: the states passed so far are entered.
-use Prim.Native.Nat.{ℕ, _-_, _≤_, _<_}
-use mathlib.Core.Path.{_≡_, _∙_, sym}
+-- `start`: the states of the fragment's list passed so far are queued where they have mark 2.
+use Prim.Native.Nat.{_-_, _≤_, _<_}
+use mathlib.Core.Path.{_≡_}
 use mathlib.Core.Logic.{⊎-elim}
-use lib.ListN.{length}
-use Rattle.job.specs.Job.{Structure}
-use Rattle.spread.specs.Underway.{outs, Runs, Marked}
-use Rattle.spread.proofs.Tally.{run-is}
-use Rattle.spread.proofs.Marking.{marked-none}
-use Rattle.spread.proofs.Start.{start-rest, start-room, start-push}
 use borrow.Author.Needs.{needs}
 use native.Mathlib.Omega.{arith}
+use denote.Ref.{now}
+use Rattle.image.specs.Image.{jobOf, fragmentSize}
+use Rattle.spread.proofs.Queue.{Passed, start-none, start-rest, start-room, start-push, start-over}
 use Rattle.spread.proofs.spread.start.Statement.{statement}
 use Rattle.spread.proofs.spread.start.Tie as tie
 
 abbrev Inv-loop : tie.InvT-loop
-Inv-loop states all first marks₀ queue₀ tail₀ s₀ marks queue tail s =
-    (s ≤ states) × ((M : Structure) → Runs M states first → Marked M all marks₀ s (λ _. 0) marks queue tail)
+Inv-loop m n marks queue₀ tail₀ i₀ i-end queue tail i = (i ≤ i-end) × Passed (jobOf m) n marks queue tail i
 
 abbrev μ-loop : tie.MeasureT-loop
-μ-loop states all first marks₀ queue₀ tail₀ s₀ marks queue tail s = states - s
+μ-loop m n marks queue₀ tail₀ i₀ i-end queue tail i = i-end - i
 
 loop-holds : tie.Need-loop-holds Inv-loop μ-loop
-loop-holds c =
-    (search needs, λ M r. marked-none M (c .args .all) (c .args .marks .now) (λ _. 0) (c .args .queue .now) (c .pre .1 .0) (c .pre .1 .1))
+loop-holds c = (search needs, start-none _ _ (now (c .before .args .marks)) _ (c .before .pre .1 .1))
 
-element-copy-out-starts : tie.Need-element-copy-out-starts Inv-loop μ-loop
-element-copy-out-starts c = let r = c .before .before .pre .0 .1 in omega arith
+in-list :
+    (c : tie.In-loop Inv-loop μ-loop)
+    → c .before .loop .i < fragmentSize (jobOf (now (c .before .before .before .args .m))) (c .before .before .before .args .n)
+in-list c = let is = c .before .before .fragment-size .ensures .0 in omega arith
 
-edges-out-requires : tie.Need-edges-out-requires Inv-loop μ-loop
-edges-out-requires c κs =
-    let (M, r) = c .before .before .before .pre .0 in
-    let l = c .before .before .loop in
-    (omega arith, run-is M (c .before .before .before .args .states) (c .before .before .before .args .first .now) r (l .s) (omega arith) .0)
-
-starts-requires : tie.Need-starts-requires Inv-loop μ-loop
-starts-requires c κs = search needs
-
--- the state, and how many edges leave it
-module _ (c : tie.After-starts Inv-loop μ-loop) where
-  abbrev start-of : tie.Start Inv-loop μ-loop
-  start-of = c .before .before .before .before .before
-
-  abbrev state : ℕ
-  state = c .before .before .before .before .loop .s
-
-  abbrev RunsHere : Structure → Type 0
-  RunsHere M = Runs M (start-of .args .states) (start-of .args .first .now)
-
-  state-in : (M : Structure) → RunsHere M → state < length (M .labels)
-  state-in M r = omega arith
-
-  out-is : (M : Structure) → RunsHere M → c .before .edges-out .result ≡ outs M state
-  out-is M r =
-      c .before .edges-out .ensures ∙ run-is M (start-of .args .states) (start-of .args .first .now) r state (state-in M r) .1
-
-room : (c : tie.Then1 Inv-loop μ-loop) → c .before .before .before .before .before .loop .tail < 256
+room : (c : tie.Then1 Inv-loop μ-loop) → c .before .before .before .before .loop .tail < 256
 room c =
-    let p = c .before in
-    let l = c .before .before .before .before .before .loop in
-    let (M, r) = start-of p .pre .0 in
-    start-room (l .inv .1 M r) (r .few-states) (state-in p M r) (p .before .edges-out .result) (out-is p M r) (sym (p .starts .ensures) ∙ c .if1 .taken)
+    let p = c .before .before in
+    let b = p .before .before .before .before in
+    start-room _ _ (now (b .args .marks)) (b .pre .0 .is-job) (p .before .before .loop .inv .1) (in-list (p .before)) _
+    (p .fragment-state .ensures .0) (c .if1 .taken)
 
-push-requires : tie.Need-push-requires Inv-loop μ-loop
-push-requires c κs = (let r = c .before .before .before .before .before .before .before .before .pre .0 .1 in omega arith, room (c .before .before))
+fragment-state-requires : tie.Need-fragment-state-requires Inv-loop μ-loop
+fragment-state-requires c κs =
+    let pre = c .before .before .before .pre in (pre .0, (pre .1 .0, in-list c))
 
-add-s : tie.Need-add-s Inv-loop μ-loop
-add-s c = search needs
+element-write-queue : tie.Need-element-write-queue Inv-loop μ-loop
+element-write-queue c = room c
 
-loop-less : tie.Need-loop-less Inv-loop μ-loop
-loop-less c = search needs
+add-tail : tie.Need-add-tail Inv-loop μ-loop
+add-tail c = let r = room c in search (needs, r)
 
 loop-again : tie.Need-loop-again Inv-loop μ-loop
 loop-again c =
-    let p = c .before in
-    let l = c .before .before .before .before .before .loop in (
+    let p = c .before .before in
+    let l = p .before .before .loop in
+    let b = p .before .before .before .before in
+    let marks = now (b .args .marks) in
+    let s-is = p .fragment-state .ensures .0 in (
       search needs,
-      λ M r.
-          ⊎-elim
-          (λ (how, a₁, a₂, pushed, m, q, t).
-          rw (m ∙ pushed .ensures .1, q ∙ pushed .ensures .2, t ∙ pushed .ensures .0)
-          (start-push (l .inv .1 M r) (r .few-states) (state-in p M r)
-          (p .before .edges-out .result) (out-is p M r) (sym (p .starts .ensures) ∙ how .taken)))
-          (λ (how, m, q, t).
-          rw (m, q, t)
-          (start-rest (l .inv .1 M r) (r .few-states) (state-in p M r)
-          (p .before .edges-out .result) (out-is p M r) (sym (p .starts .ensures) ∙ how .left)))
+      ⊎-elim
+          (λ (how, q, t).
+          rw (q, t) (start-push _ _ marks (b .pre .0 .is-job) (l .inv .1) (in-list (p .before)) _ s-is (how .taken)))
+          (λ (how, q, t).
+          rw (q, t) (start-rest _ _ marks (b .pre .0 .is-job) (l .inv .1) (in-list (p .before)) _ s-is (how .left)))
           (c .if1 .came),
     )
-
-done : (c : tie.After-loop Inv-loop μ-loop) → c .before .loop .s ≡ c .before .before .args .states
-done c = omega arith
 
 returns : tie.Need-returns Inv-loop μ-loop
 returns c =
     let l = c .before .loop in
-    let a = c .before .before .args in
-    λ M r. rw (done c) at (l .inv .1 M r)
+    let a = c .before .before .before in
+    let end : l .i ≡ fragmentSize (jobOf (now (a .args .m))) (a .args .n) = let is = c .before .before .fragment-size .ensures .0 in omega arith in
+    start-over _ _ _ (a .pre .0 .is-job) (rw end at (l .inv .1))
 
 pub start-spec : {M : Type 1} → statement M
 start-spec =
-    tie.close
-    (tie.spec
-    Inv-loop
-    μ-loop
-    loop-holds
-    element-copy-out-starts
-    edges-out-requires
-    starts-requires
-    push-requires
-    add-s
-    loop-less
-    loop-again
-    returns)
+    let first = tie.spec Inv-loop μ-loop (λ c κs. search needs) loop-holds fragment-state-requires (λ c. search needs) (λ c. search needs) in
+    tie.close (first element-write-queue add-tail (λ c. search needs) (λ c. search needs) loop-again returns)

@@ -1,159 +1,136 @@
 -- `tell`: the edges passed so far are seen.
-use Prim.Native.Nat.{ℕ, _+_, _-_, _≤_, _<_}
-use mathlib.Core.Path.{_∙_, sym}
+use Prim.Native.Nat.{ℕ, _-_, _<_}
+use mathlib.Core.Path.{_≡_}
+use mathlib.Core.List.{List}
 use mathlib.Core.Logic.{⊎-elim}
-use lib.ListN.{getD}
-use Rattle.spread.specs.Underway.{Work}
-use Rattle.spread.proofs.Walk.{Walking, walk-start, walk-over, walk-head, walk-safe, walk-rest, walk-room, walk-push}
 use borrow.Author.Needs.{needs}
 use native.Mathlib.Omega.{arith}
+use denote.Ref.{now}
+use Rattle.job.specs.Written.{IsJob, edgeCount}
+use Rattle.image.specs.Image.{jobOf}
+use Rattle.spread.specs.Underway.{Spreading}
+use Rattle.spread.proofs.Walk.{Walking, head-in, walk-start, walk-over, j-in, walk-count, walk-room, walk-rest, walk-push}
+use Rattle.spread.proofs.Worklist.{list-room}
 use Rattle.spread.proofs.spread.tell.Statement.{statement}
 use Rattle.spread.proofs.spread.tell.Tie as tie
 
 abbrev Inv-loop : tie.InvT-loop
-Inv-loop t all first sources heads nexts marks₀ counts₀ queue₀ old tail₀ e₀ marks counts queue tail e =
-    (w : Work all first sources heads nexts t marks₀ counts₀ queue₀ old)
-    → Walking (w .lent .structure) all (w .before) (w .told) t queue₀ old marks counts queue tail e
+Inv-loop m n all head old marks₀ counts₀ queue₀ tail₀ e₀ marks counts queue tail e =
+    (before : List ℕ)
+    → Spreading (jobOf m) n all before marks₀ counts₀ queue₀ old head
+    → Walking (jobOf m) n all before queue₀ head old marks counts queue tail e
 
 abbrev μ-loop : tie.MeasureT-loop
-μ-loop t all first sources heads nexts marks₀ counts₀ queue₀ old tail₀ e₀ marks counts queue tail e = e
+μ-loop m n all head old marks₀ counts₀ queue₀ tail₀ e₀ marks counts queue tail e = e
 
--- an edge of the walk, and its source
-module _ (c : tie.In-loop Inv-loop μ-loop) where
-  abbrev start-of : tie.Start Inv-loop μ-loop
-  start-of = c .before .before .before
+-- what is underway at the function's start, and that the head is in the queue
+module _ (c : tie.Start Inv-loop μ-loop) where
+  job : IsJob (jobOf (now (c .args .m)))
+  job = c .pre .0 .is-job
 
-  abbrev state : ℕ
-  state = getD (start-of .args .sources .now) (c .before .loop .e - 1) 0
+  abbrev before-of : List ℕ
+  before-of = c .pre .1 .1 .0
 
-  safe :
-      (c .before .loop .e - 1 < 2048)
-      × (state < 256)
-      × (getD (start-of .args .first .now) state 0 ≤ getD (start-of .args .first .now) (state + 1) 0)
-      × (getD (c .before .loop .counts) state 0 ≤ 2048)
-      × (getD (start-of .args .nexts .now) (c .before .loop .e - 1) 0 < c .before .loop .e)
-  safe = let w = start-of .pre in walk-safe w (c .before .loop .inv w) (c .loop-test .taken)
+  begun :
+      Spreading (jobOf (now (c .args .m))) (c .args .n) (c .args .all) before-of (now (c .args .marks)) (now (c .args .counts)) (now (c .args .queue))
+      (c .args .old) (c .args .head)
+  begun = c .pre .1 .1 .1
 
-mul-e : tie.Need-mul-e Inv-loop μ-loop
-mul-e c = let h = walk-head (c .pre) in omega arith
+  in-queue : c .args .head < c .args .old
+  in-queue = c .pre .1 .0 .1
 
-element-copy-out-e : tie.Need-element-copy-out-e Inv-loop μ-loop
-element-copy-out-e c = walk-head (c .pre) .0
+element-copy-out-last-into : tie.Need-element-copy-out-last-into Inv-loop μ-loop
+element-copy-out-last-into c = let room = list-room (job c) (begun c) in let l = in-queue c in omega arith
 
-cast-e : tie.Need-cast-e Inv-loop μ-loop
-cast-e c = let h = walk-head (c .before .pre) in omega arith
+cast-last-into : tie.Need-cast-last-into Inv-loop μ-loop
+cast-last-into c =
+    let few = job (c .before) .states .below in
+    let small = head-in (job (c .before)) (begun (c .before)) (in-queue (c .before)) in
+    search (needs, few, small)
+
+last-into-requires : tie.Need-last-into-requires Inv-loop μ-loop
+last-into-requires c κs =
+    let p = c .before in (p .pre .0, (p .pre .1 .0 .0, head-in (job p) (begun p) (in-queue p)))
 
 loop-holds : tie.Need-loop-holds Inv-loop μ-loop
-loop-holds c = λ w. walk-start w
+loop-holds c =
+    let p = c .before .before in
+    λ before w. walk-start (job p) w (in-queue p) _ (c .last-into .ensures .0)
 
-sub-s : tie.Need-sub-s Inv-loop μ-loop
-sub-s c = search needs
+-- an edge of the walk
+module _ (c : tie.In-loop Inv-loop μ-loop) where
+  abbrev start-of : tie.Start Inv-loop μ-loop
+  start-of = c .before .before .before .before
 
-element-copy-out-s : tie.Need-element-copy-out-s Inv-loop μ-loop
-element-copy-out-s c = safe c .0
+  here :
+      Walking (jobOf (now (start-of .args .m))) (start-of .args .n) (start-of .args .all) (before-of start-of) (now (start-of .args .queue))
+      (start-of .args .head) (start-of .args .old) (c .before .loop .marks) (c .before .loop .counts) (c .before .loop .queue)
+      (c .before .loop .tail) (c .before .loop .e)
+  here = c .before .loop .inv (before-of start-of) (begun start-of)
 
-cast-s : tie.Need-cast-s Inv-loop μ-loop
-cast-s c = let h = safe (c .before) in omega arith
+  on-edge : c .before .loop .e ≡ 0 → ⊥
+  on-edge = c .loop-test .taken
 
-mul-told : tie.Need-mul-told Inv-loop μ-loop
-mul-told c = let h = safe (c .before) in omega arith
+  edge-in : c .before .loop .e - 1 < edgeCount (jobOf (now (start-of .args .m)))
+  edge-in = j-in (job start-of) (begun start-of) (in-queue start-of) here on-edge
 
-element-copy-out-told : tie.Need-element-copy-out-told Inv-loop μ-loop
-element-copy-out-told c = safe (c .before) .1
+source-requires : tie.Need-source-requires Inv-loop μ-loop
+source-requires c κs = (start-of c .pre .0, edge-in c)
 
 add-told : tie.Need-add-told Inv-loop μ-loop
-add-told c = let h = safe (c .before .before) in omega arith
+add-told c =
+    let p = c .before in
+    let i = p .before in
+    let b = start-of i in
+    let few = walk-count (job b) (begun b) (in-queue b) (here i) (on-edge i) _ (p .source .ensures .0) in
+    search (needs, few)
 
-mul-counts : tie.Need-mul-counts Inv-loop μ-loop
-mul-counts c = let h = safe (c .before .before) in omega arith
-
-element-write-counts : tie.Need-element-write-counts Inv-loop μ-loop
-element-write-counts c = safe (c .before .before) .1
-
-element-copy-out-joins : tie.Need-element-copy-out-joins Inv-loop μ-loop
-element-copy-out-joins c = safe (c .before .before) .1
-
-edges-out-requires : tie.Need-edges-out-requires Inv-loop μ-loop
-edges-out-requires c κs = (safe (c .before .before .before) .1, safe (c .before .before .before) .2)
-
-joins-requires : tie.Need-joins-requires Inv-loop μ-loop
-joins-requires c κs = search needs
-
-room : (c : tie.Then1 Inv-loop μ-loop) → c .before .before .before .before .before .before .before .loop .tail < 256
+room : (c : tie.Then1 Inv-loop μ-loop) → c .before .before .before .before .before .before .loop .tail < 256
 room c =
     let p = c .before in
-    let i = c .before .before .before .before .before .before in
-    let l = i .before .loop in
-    let w = start-of i .pre in
-    walk-room w (l .inv w) (i .loop-test .taken) (p .before .edges-out .result)
-    (p .before .edges-out .ensures) (sym (p .joins .ensures) ∙ c .if1 .taken)
+    let s = p .before .before .before in
+    let i = s .before in
+    let b = start-of i in
+    walk-room (job b) (begun b) (in-queue b) (here i) (on-edge i) _ (s .source .ensures .0) _ (p .joins .ensures) (c .if1 .taken)
 
-push-requires : tie.Need-push-requires Inv-loop μ-loop
-push-requires c κs = (safe (c .before .before .before .before .before .before .before .before) .1, room (c .before .before))
+element-write-queue : tie.Need-element-write-queue Inv-loop μ-loop
+element-write-queue c = room c
 
-sub-e : tie.Need-sub-e Inv-loop μ-loop
-sub-e c = search needs
+add-tail : tie.Need-add-tail Inv-loop μ-loop
+add-tail c = let r = room c in search (needs, r)
 
-mul-e-2 : tie.Need-mul-e-2 Inv-loop μ-loop
-mul-e-2 c = let h = safe (c .before .before .before .before .before .before) in omega arith
-
-element-copy-out-e-2 : tie.Need-element-copy-out-e-2 Inv-loop μ-loop
-element-copy-out-e-2 c = safe (c .before .before .before .before .before .before) .0
-
-cast-e-2 : tie.Need-cast-e-2 Inv-loop μ-loop
-cast-e-2 c = let h = safe (c .before .before .before .before .before .before .before) in omega arith
+next-into-requires : tie.Need-next-into-requires Inv-loop μ-loop
+next-into-requires c κs =
+    let i = c .before .before .before .before .before in (start-of i .pre .0, edge-in i)
 
 loop-less : tie.Need-loop-less Inv-loop μ-loop
-loop-less c = safe (c .before .before .before .before .before .before .before) .4
+loop-less c = let l = c .next-into .ensures .1 in omega arith
 
 loop-again : tie.Need-loop-again Inv-loop μ-loop
 loop-again c =
     let p = c .before .before in
-    let i = c .before .before .before .before .before .before .before in
-    let l = i .before .loop in
-    λ w.
+    let s = p .before .before .before in
+    let i = s .before in
+    let b = start-of i in
+    λ before w.
+    let at = i .before .loop .inv before w in
     ⊎-elim
-    (λ (how, a₁, a₂, pushed, m, q, t).
-    rw (m ∙ pushed .ensures .1, q ∙ pushed .ensures .2, t ∙ pushed .ensures .0)
-    (walk-push w (l .inv w) (i .loop-test .taken) (p .before .edges-out .result)
-    (p .before .edges-out .ensures) (sym (p .joins .ensures) ∙ how .taken)))
     (λ (how, m, q, t).
     rw (m, q, t)
-    (walk-rest w (l .inv w) (i .loop-test .taken) (p .before .edges-out .result)
-    (p .before .edges-out .ensures) (sym (p .joins .ensures) ∙ how .left)))
+    (walk-push (job b) w (in-queue b) at (on-edge i) _ (s .source .ensures .0) _ (p .joins .ensures) _ (c .next-into .ensures .0) (how .taken)))
+    (λ (how, m, q, t).
+    rw (m, q, t)
+    (walk-rest (job b) w (in-queue b) at (on-edge i) _ (s .source .ensures .0) _ (p .joins .ensures) _ (c .next-into .ensures .0) (how .left)))
     (c .before .if1 .came)
 
 returns : tie.Need-returns Inv-loop μ-loop
 returns c =
-    let l = c .before .loop in
-    λ w. walk-over w (l .inv w) (c .loop-test .left)
+    let b = c .before .before .before .before in
+    λ before w. walk-over (job b) w (in-queue b) (c .before .loop .inv before w) (c .loop-test .left)
 
 pub tell-spec : {M : Type 1} → statement M
 tell-spec =
-    tie.close
-    (tie.spec
-    Inv-loop
-    μ-loop
-    mul-e
-    element-copy-out-e
-    cast-e
-    loop-holds
-    sub-s
-    element-copy-out-s
-    cast-s
-    mul-told
-    element-copy-out-told
-    add-told
-    mul-counts
-    element-write-counts
-    element-copy-out-joins
-    edges-out-requires
-    joins-requires
-    push-requires
-    sub-e
-    mul-e-2
-    element-copy-out-e-2
-    cast-e-2
-    loop-less
-    loop-again
-    returns)
+    let first = tie.spec Inv-loop μ-loop element-copy-out-last-into cast-last-into last-into-requires loop-holds (λ c. search needs) in
+    let second = first source-requires (λ c. search needs) (λ c. search needs) add-told (λ c. search needs) (λ c. search needs) in
+    let third = second (λ c. search needs) (λ c κs. search needs) (λ c. search needs) (λ c. search needs) element-write-queue add-tail in
+    tie.close (third (λ c. search needs) next-into-requires loop-less loop-again returns)

@@ -17,21 +17,6 @@ abbrev μ-loop : tie.MeasureT-loop
 loop-holds : tie.Need-loop-holds Inv-loop μ-loop
 loop-holds c = (search needs, bytes-none _ _ _)
 
-mul-stale : tie.Need-mul-stale Inv-loop μ-loop
-mul-stale c = search needs
-
-add-stale : tie.Need-add-stale Inv-loop μ-loop
-add-stale c = search needs
-
-element-write-stale : tie.Need-element-write-stale Inv-loop μ-loop
-element-write-stale c = search needs
-
-add-k : tie.Need-add-k Inv-loop μ-loop
-add-k c = search needs
-
-loop-less : tie.Need-loop-less Inv-loop μ-loop
-loop-less c = search needs
-
 loop-again : tie.Need-loop-again Inv-loop μ-loop
 loop-again c =
     let l = c .before .loop in
@@ -45,15 +30,5 @@ returns c =
 
 pub clear-row-spec : {M : Type 1} → statement M
 clear-row-spec =
-    tie.close
-    (tie.spec
-    Inv-loop
-    μ-loop
-    loop-holds
-    mul-stale
-    add-stale
-    element-write-stale
-    add-k
-    loop-less
-    loop-again
-    returns)
+    let first = tie.spec Inv-loop μ-loop loop-holds (λ c. search needs) (λ c. search needs) (λ c. search needs) (λ c. search needs) in
+    tie.close (first (λ c. search needs) loop-again returns)

@@ -1,0 +1,42 @@
+// The call fresh.
+ghost use mathlib.Core.Path.{_≡_};
+ghost use Rattle.cells.specs.Table.{freshTable};
+ghost use Rattle.cells.specs.Calls.{Call, answer, after};
+ghost use Rattle.calls.specs.Told.{freshTold};
+use crate::read::read;
+use crate::refusal::by;
+use job::reader::Reading;
+use job::reader::Refusal;
+use job::reader::refused_by;
+
+pub enum Cleared {
+    Accepted,
+    Refused(Refusal),
+}
+
+// Makes every cell empty.
+fn clear(table: &mut [u8])
+    ensures { λ _. ⌜ now (table .exit) ≡ freshTable (now (table .entry)) ⌝ }
+{
+    let mut i = 0;
+    while i < table.len() {
+        table[i] = 2;
+        i += 1;
+    }
+}
+
+// Makes a table of the job's length fresh, whatever it holds. A refusal leaves every byte.
+pub fn fresh(text: &[u8], table: &mut [u8]) -> Cleared
+    ensures told { λ r. ⌜ freshTold r ≡ answer Call.fresh (now (text .entry)) (now (table .entry)) ⌝ }
+    ensures left { λ _. ⌜ now (table .exit) ≡ after Call.fresh (now (text .entry)) (now (table .entry)) ⌝ }
+{
+    let reading = read(text);
+    let Reading::Accepted(h) = reading else {
+        return Cleared::Refused(refused_by(reading));
+    };
+    if table.len() != h.nodes * h.states * h.subformulas {
+        return Cleared::Refused(by(9));
+    }
+    clear(table);
+    Cleared::Accepted
+}

@@ -1,0 +1,4 @@
+pub mod ValueLaws
+pub mod MarkLaws
+pub mod SetLaws
+pub mod ColumnLaws

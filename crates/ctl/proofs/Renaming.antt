@@ -1,0 +1,69 @@
+-- Truth by walks does not depend on the numbers of subformulas: where one list of subformulas stands under other numbers in another
+-- list, a subformula holds exactly where the one with its new number does, on every structure. Assumes nothing.
+use Prim.Native.Nat.{ℕ, zero, suc, _-_, _<_}
+use mathlib.Core.Path.{_≡_, refl}
+use mathlib.Core.List.{List, [], _∷_}
+use mathlib.Core.Logic.{_↔_}
+use native.Mathlib.Nat.{le-refl, not-suc-le-zero}
+use native.Mathlib.Omega.{arith}
+use Rattle.job.specs.Job.{Structure, subformula}
+use Rattle.job.specs.Formula.{renamed}
+use Rattle.job.specs.Rule.{InRange}
+use Rattle.job.specs.Written.{Operands}
+use Rattle.job.specs.declared.subformula.Subformula.{Subformula}
+use Rattle.job.specs.declared.subformula.Subformula.the-variants.{Atom, And}
+use Rattle.ctl.specs.Truth.{within, Holds}
+use Rattle.ctl.specs.Renaming.{Renames}
+use Rattle.ctl.proofs.Truth.{meaning-renamed}
+
+module _ (M : Structure) (ρ : ℕ → ℕ) (f g : List Subformula) (bound : ℕ) (renames : Renames ρ f bound g) where
+  -- Any fuels above k and above ρ k: an operand of line k is below k, and its new number is an operand of line ρ k, so below ρ k.
+  within-renamed :
+      (n m k : ℕ) → k < n → ρ k < m → k < bound → (s : ℕ) → within M f n k s ↔ within M g m (ρ k) s
+  unfolding within
+  within-renamed zero m k h h′ l s = absurd (not-suc-le-zero h)
+  within-renamed (suc n) zero k h h′ l s = absurd (not-suc-le-zero h′)
+  within-renamed (suc n) (suc m) k h h′ l s =
+      rw (renames .same k l)
+      (meaning-renamed M ρ k (ρ k) (within M f n) (within M g m)
+      (λ a x y. within-renamed n m a (omega arith) (omega arith) (omega arith))
+      (subformula f k) (renames .left k l) (rw (renames .same k l) at (renames .right k l)) s)
+
+  pub holds-renamed : (k : ℕ) → k < bound → (s : ℕ) → Holds M f k s ↔ Holds M g (ρ k) s
+  unfolding Holds
+  holds-renamed k l = within-renamed (suc k) (suc (ρ k)) k (le-refl (suc k)) (le-refl (suc (ρ k))) l
+
+-- Such lists: p0, p0 again, and both; and p0 once, and both.
+abbrev pub twice : List Subformula
+twice = Atom 0 ∷ Atom 0 ∷ And 0 1 ∷ []
+
+abbrev pub once : List Subformula
+once = Atom 0 ∷ And 0 0 ∷ []
+
+abbrev pub earlier : ℕ → ℕ
+earlier k = k - 1
+
+pub once-renames : Renames earlier twice 3 once
+unfolding subformula renamed InRange
+once-renames = record { same = lines; left = left; right = right }
+  where
+    lines : (k : ℕ) → k < 3 → subformula once (earlier k) ≡ renamed earlier (subformula twice k)
+    lines zero l = refl
+    lines (suc zero) l = refl
+    lines (suc (suc zero)) l = refl
+    lines (suc (suc (suc k))) l = absurd (omega arith)
+
+    left : (k : ℕ) → k < 3 → Operands k (subformula twice k)
+    left zero l = omega arith
+    left (suc zero) l = omega arith
+    left (suc (suc zero)) l = (omega arith, omega arith)
+    left (suc (suc (suc k))) l = absurd (omega arith)
+
+    right : (k : ℕ) → k < 3 → Operands (earlier k) (subformula once (earlier k))
+    right zero l = omega arith
+    right (suc zero) l = omega arith
+    right (suc (suc zero)) l = (omega arith, omega arith)
+    right (suc (suc (suc k))) l = absurd (omega arith)
+
+pub once-holds : (M : Structure) (s : ℕ) → Holds M twice 2 s ↔ Holds M once 1 s
+once-holds M = holds-renamed M earlier twice once 3 once-renames 2 (omega arith)

@@ -1,3 +1,0 @@
-pub mod JudgeLaws
-pub mod ShownLaws
-pub mod Printed

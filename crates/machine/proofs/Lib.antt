@@ -1,5 +1,0 @@
-pub mod Arrays
-pub mod TextLaws
-pub mod RunLaws
-pub mod DecodeLaws
-pub mod FragmentLaws

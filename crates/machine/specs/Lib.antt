@@ -1,4 +1,0 @@
-pub mod Decoded
-pub mod Loops
-pub mod Fragments
-pub mod Held

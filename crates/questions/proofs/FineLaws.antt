@@ -1,0 +1,105 @@
+-- What a call may count on whose questions are all answered yes: r is the number of the first no, and it is 0. Assumes nothing.
+use Prim.Native.Nat.{ℕ, suc, _<_}
+use mathlib.Core.Path.{_≡_, refl, sym, _∙_}
+use mathlib.Core.Bool.{Bool, true, false, cond, not, _&&_, _||_}
+use mathlib.Core.List.{List, [], _∷_}
+use native.Mathlib.Omega.{arith}
+use borrow.Author.Tests.{eq-eqb, ne-eqb, eqb-true, ltb-true}
+use lib.Dec.{eqb, ltb, leb}
+use Rattle.law.proofs.Bool.{or-cases}
+use Rattle.law.proofs.Bounded.{by-equal}
+use mathlib.Core.Logic.{⊎-elim}
+use Rattle.job.specs.Job.{size, subformulaCount}
+use Rattle.job.specs.Question.{Question, noNumber}
+use Rattle.job.proofs.QuestionLaws.{noNumber-first}
+use Rattle.cells.specs.Fragment.{inFragment, border}
+use Rattle.cells.specs.Table.{Table, cell, ownerCell, isEmpty}
+use Rattle.cells.specs.Close.{isTemporal, smallestOpen, settled, someOpen}
+use Rattle.cells.specs.Questions.{tableSize, tableCells}
+use Rattle.cells.specs.Calls.{Call, ownQuestions, nodeRead}
+use Rattle.cells.proofs.FragmentLaws.{border-inside}
+use Rattle.image.specs.Image.{IsImage, jobOf}
+use Rattle.table.specs.Lent.{Ready, IsCell}
+use Rattle.questions.proofs.NoLaws.{table-ready, node-ready, offer-asked, accept-asked, look-asked, close-asked, numbers-in}
+
+-- a question that is answered yes, and those behind it too
+cond-zero : (b : Bool) (x y : ℕ) → cond b x (suc y) ≡ 0 → (b ≡ true) × (x ≡ 0)
+cond-zero true x y e = (refl, e)
+cond-zero false x y e = absurd (let never : suc y ≡ 0 = e in omega arith)
+
+module _ (m : List ℕ) (t : Table) (image : IsImage m) (r : ℕ) (none : r ≡ 0) where
+  front-ready : (qs : List Question) → r ≡ noNumber (tableSize (jobOf m) t ∷ (tableCells (jobOf m) t ∷ qs)) → Ready m t
+  unfolding ownQuestions
+  front-ready qs asked =
+      let front = tableSize (jobOf m) t ∷ (tableCells (jobOf m) t ∷ []) in
+      let fine : noNumber front ≡ 0 =
+      by-equal (noNumber front) 0 (λ e. e) (λ some. absurd (some (sym (noNumber-first front qs some) ∙ sym asked ∙ none))) in
+      table-ready m t image 0 (sym fine) refl
+
+  pub step-fine : (n : ℕ) → r ≡ noNumber (ownQuestions (Call.step n) (jobOf m) t) → Ready m t × (n < jobOf m .nodes)
+  step-fine n asked = node-ready m t image n r asked none
+
+  pub offer-fine :
+      (s k : ℕ)
+      → r ≡ noNumber (ownQuestions (Call.offer s k) (jobOf m) t)
+      → Ready m t × ((s < size (jobOf m)) × (k < subformulaCount (jobOf m)))
+  unfolding ownQuestions
+  offer-fine s k asked =
+      let ready = front-ready _ asked in
+      let owner : ℕ = cond (not (isEmpty (ownerCell (jobOf m) t s k))) 0 14 in
+      let (numbers, rest) =
+      cond-zero (ltb s (size (jobOf m)) && ltb k (subformulaCount (jobOf m))) (cond (isTemporal (jobOf m) k) owner 13) 11
+      (sym (offer-asked ready s k) ∙ sym asked ∙ none) in
+      (ready, numbers-in (jobOf m) s k numbers)
+
+  pub accept-fine :
+      (n s k v : ℕ)
+      → r ≡ noNumber (ownQuestions (Call.accept n s k v) (jobOf m) t)
+      → Ready m t × (IsCell (jobOf m) n s k × (inFragment (jobOf m) n s ≡ true))
+  unfolding ownQuestions
+  accept-fine n s k v asked =
+      let front = ownQuestions (Call.step n) (jobOf m) t in
+      let fine : noNumber front ≡ 0 =
+      by-equal (noNumber front) 0 (λ e. e) (λ some. absurd (some (sym (noNumber-first front _ some) ∙ sym asked ∙ none))) in
+      let (ready, under) = node-ready m t image n 0 (sym fine) refl in
+      let c = cell (jobOf m) t n s k in
+      let at-17 : ℕ = cond (isEmpty c || eqb c v) 0 17 in
+      let at-16 : ℕ = cond (border (jobOf m) n s) at-17 16 in
+      let at-15 : ℕ = cond (leb v 1) at-16 15 in
+      let (numbers, rest) =
+      cond-zero (ltb s (size (jobOf m)) && ltb k (subformulaCount (jobOf m))) (cond (isTemporal (jobOf m) k) at-15 13) 11
+      (sym (accept-asked ready n s k v under) ∙ sym asked ∙ none) in
+      let (temporal, others) = cond-zero (isTemporal (jobOf m) k) at-15 12 rest in
+      let (value, last) = cond-zero (leb v 1) at-16 14 others in
+      let (at-border, agrees) = cond-zero (border (jobOf m) n s) at-17 15 last in
+      let (state, subformula) = numbers-in (jobOf m) s k numbers in
+      (ready, (record { node-in = under; state-in = state; subformula-in = subformula }, border-inside (jobOf m) n s at-border))
+
+  pub look-fine :
+      (n s k : ℕ) → r ≡ noNumber (ownQuestions (Call.look n s k) (jobOf m) t) → Ready m t × IsCell (jobOf m) (nodeRead n) s k
+  unfolding ownQuestions nodeRead
+  look-fine n s k asked =
+      let ready = front-ready _ asked in
+      let at-18 : ℕ = cond (inFragment (jobOf m) (nodeRead n) s) 0 18 in
+      let at-12 : ℕ = cond (ltb s (size (jobOf m)) && ltb k (subformulaCount (jobOf m))) at-18 12 in
+      let (node, rest) = cond-zero (ltb n (jobOf m .nodes) || eqb n 255) at-12 10 (sym (look-asked ready n s k) ∙ sym asked ∙ none) in
+      let (numbers, last) = cond-zero (ltb s (size (jobOf m)) && ltb k (subformulaCount (jobOf m))) at-18 11 rest in
+      let (state, subformula) = numbers-in (jobOf m) s k numbers in
+      let some = ready .lent .image .is-job .nodes .above in
+      let read : cond (eqb n 255) 0 n < jobOf m .nodes =
+      by-equal n 255
+      (λ e. rw (eq-eqb n 255 e) (omega arith))
+      (λ e.
+      rw (ne-eqb n 255 e)
+      (⊎-elim (ltb-true n (jobOf m .nodes)) (λ z. absurd (e (eqb-true n 255 z))) (or-cases (ltb n (jobOf m .nodes)) (eqb n 255) node))) in
+      (ready, record { node-in = read; state-in = state; subformula-in = subformula })
+
+  pub close-fine :
+      r ≡ noNumber (ownQuestions Call.close (jobOf m) t) → Ready m t × (smallestOpen (jobOf m) t < subformulaCount (jobOf m))
+  unfolding ownQuestions someOpen
+  close-fine asked =
+      let ready = front-ready _ asked in
+      let (still, rest) =
+      cond-zero (settled (jobOf m) t) (cond (someOpen (jobOf m) t) 0 20) 18 (sym (close-asked ready) ∙ sym asked ∙ none) in
+      let (some, last) = cond-zero (someOpen (jobOf m) t) 0 19 rest in
+      (ready, ltb-true (smallestOpen (jobOf m) t) (subformulaCount (jobOf m)) some)

@@ -1,0 +1,2 @@
+pub mod NoLaws
+pub mod FineLaws

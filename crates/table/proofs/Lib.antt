@@ -1,0 +1,5 @@
+pub mod Parts
+pub mod FillingLaws
+pub mod CellLaws
+pub mod RightLaws
+pub mod FillingLoops

@@ -1,0 +1,4 @@
+pub mod FieldLaws
+pub mod DecimalLaws
+pub mod Line
+pub mod WriteLaws

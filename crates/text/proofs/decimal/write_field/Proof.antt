@@ -1,0 +1,38 @@
+-- `write_field`: five stores, as `sets` has them.
+use lib.ListN.{length-set}
+use Rattle.text.specs.Decimal.{decimal}
+use native.Mathlib.Numerals.{towards-suc}
+use native.Mathlib.Omega.{arith}
+use borrow.Author.Needs.{needs}
+use Rattle.text.proofs.decimal.write_field.Statement.{statement}
+use Rattle.text.proofs.decimal.write_field.Tie as tie
+
+slice-write-out-2 : tie.Need-slice-write-out-2
+slice-write-out-2 c = simp length-set (omega arith)
+
+slice-write-out-3 : tie.Need-slice-write-out-3
+slice-write-out-3 c = simp length-set (omega arith)
+
+slice-write-out-4 : tie.Need-slice-write-out-4
+slice-write-out-4 c = simp length-set (omega arith)
+
+slice-write-out-5 : tie.Need-slice-write-out-5
+slice-write-out-5 c = simp length-set (omega arith)
+
+returns : tie.Need-returns
+unfolding decimal
+returns c =
+    simp (
+      c .before .before .before .before .digit .ensures,
+      c .before .before .before .digit2 .ensures,
+      c .before .before .digit3 .ensures,
+      c .before .digit4 .ensures,
+      c .digit5 .ensures,
+      towards-suc,
+    )
+
+pub write-field-spec : {M : Type 1} → statement M
+write-field-spec =
+    let first = tie.spec (λ c κs. search needs) (λ c. search needs) (λ c κs. search needs) (λ c. search needs) slice-write-out-2 in
+    let second = first (λ c κs. search needs) (λ c. search needs) slice-write-out-3 (λ c κs. search needs) (λ c. search needs) in
+    tie.close (second slice-write-out-4 (λ c κs. search needs) (λ c. search needs) slice-write-out-5 (λ c. search needs) returns)

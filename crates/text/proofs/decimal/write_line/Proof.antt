@@ -1,0 +1,37 @@
+-- `write_line`: a number more, and byte 10 behind the last.
+use Prim.Native.Nat.{_-_}
+use Rattle.text.proofs.WriteLaws.{Writing, short-at, writing-start, writing-next, writing-end}
+use borrow.Author.Needs.{needs}
+use native.Mathlib.Omega.{arith}
+use Rattle.text.proofs.decimal.write_line.Statement.{statement}
+use Rattle.text.proofs.decimal.write_line.Tie as tie
+
+abbrev Inv-loop : tie.InvT-loop
+Inv-loop out₀ at numbers count i₀ out i = Writing out₀ out at numbers i
+
+abbrev μ-loop : tie.MeasureT-loop
+μ-loop out₀ at numbers count i₀ out i = count - i
+
+loop-holds : tie.Need-loop-holds Inv-loop μ-loop
+loop-holds c = writing-start _ _ _
+
+write-field-requires : tie.Need-write-field-requires Inv-loop μ-loop
+write-field-requires c κs =
+    let a = c .before .before .before .before .before .before .args in
+    let l = c .before .before .before .loop in
+    (short-at (a .numbers .now) (l .i) (c .before .before .before .before .before .before .pre .0) (search needs), omega (arith, l .inv .long, l .inv .within))
+
+loop-again : tie.Need-loop-again Inv-loop μ-loop
+loop-again c =
+    let a = c .before .before .before .before .before .before .before .before .before .args in
+    let l = c .before .before .before .before .before .before .loop in
+    writing-next (a .out .now) (a .at) (a .numbers .now) (l .out) (l .i) (l .inv) _ (search needs) (c .before .before .write-field .ensures)
+
+returns : tie.Need-returns Inv-loop μ-loop
+returns c = writing-end _ _ _ _ (c .before .loop .i) (c .before .loop .inv) (search needs)
+
+pub write-line-spec : {M : Type 1} → statement M
+write-line-spec =
+    let first = tie.spec Inv-loop μ-loop loop-holds (λ c. search needs) (λ c. search needs) (λ c. search needs) (λ c. search needs) in
+    let second = first write-field-requires (λ c. search needs) (λ c. search needs) loop-again (λ c. search needs) (λ c. search needs) in
+    tie.close (second (λ c. search needs) (λ c. search needs) returns)

@@ -1,0 +1,66 @@
+-- The table that verdict uses: by line 1 alone it has the job's length, and where the text is refused no table matters. Assumes nothing.
+use Prim.Native.Nat.{ℕ, zero, suc, _-_, _*_, _≤_}
+use mathlib.Core.Path.{_≡_, refl, sym, _∙_, ap, ap₂, subst}
+use mathlib.Core.List.{List, _∷_}
+use native.Mathlib.Omega.{arith}
+use lib.ListN.{length, length-replicate, replicate, take}
+use Rattle.text.specs.Field.{Text}
+use Rattle.job.specs.Layout.{states, subformulas, nodes}
+use Rattle.job.specs.Job.{decode}
+use Rattle.job.specs.Answer.{Answer, accepted, refused}
+use Rattle.job.specs.Read.{readAnswer, readTold, headAnswer}
+use Rattle.job.specs.declared.reader.Header.{Header}
+use Rattle.job.specs.declared.reader.Reading.the-variants.{Accepted, Refused}
+use Rattle.job.specs.declared.reader.Refusal.{Refusal}
+use Rattle.job.proofs.QuestionLaws.{refused-not-accepted}
+use Rattle.job.proofs.LayoutLaws.{head-fits}
+use Rattle.job.proofs.ReadLaws.{read-head-refused, product-small, decode-length}
+use Rattle.cells.specs.Table.{Table, tableLength}
+use Rattle.cells.specs.Calls.{Call, answer}
+use Rattle.cells.proofs.CallLaws.{text-refused}
+
+-- line 1 is accepted: its numbers give the table's length
+module _ (x : Text) (h : Header) (told : readTold (Accepted h) ≡ headAnswer x) where
+  pub head-small : (h .nodes * h .states ≤ 2048) × (h .nodes * h .states * h .subformulas ≤ 65536)
+  head-small = product-small x h (head-fits x h told)
+
+  pub head-length : h .nodes * h .states * h .subformulas ≡ tableLength (decode x)
+  unfolding tableLength
+  head-length =
+      let fits = head-fits x h told in
+      let (nodes-are, states-are, subformulas-are) = decode-length x in
+      sym (ap₂ _*_ (ap₂ _*_ (nodes-are ∙ fits .nodes-are) (states-are ∙ fits .states-are)) (subformulas-are ∙ fits .subformulas-are))
+
+-- line 1 is refused: the text is not accepted
+pub head-refused :
+    (x : Text) (own : List ℕ) (why : Refusal)
+    → readTold (Refused why) ≡ headAnswer x
+    → accepted own ≡ readAnswer x
+    → ⊥
+unfolding readTold
+head-refused x own why told read =
+    refused-not-accepted own (why .number) (why .line) 4 (read ∙ sym (read-head-refused x (why .number) (why .line) told))
+
+-- the answer of a call on a table of the job's length, if the text is accepted, whatever the table else
+pub any-table :
+    (c : Call) (x : Text) (t u : Table)
+    → ((own : List ℕ) → accepted own ≡ readAnswer x → t ≡ u)
+    → answer c x t ≡ answer c x u
+any-table c x t u same = by-answer (readAnswer x) refl
+  where
+    by-answer : (a : Answer) → readAnswer x ≡ a → answer c x t ≡ answer c x u
+    by-answer (accepted own) e = ap (answer c x) (same own (sym e))
+    by-answer (refused number line others) e =
+        sym (text-refused c x t number line others (sym e) .0) ∙ text-refused c x u number line others (sym e) .0
+
+-- the first cells of a fresh table are a fresh table
+pub take-fresh : (n m : ℕ) → n ≤ m → take {A = ℕ} n (replicate m 2) ≡ replicate n 2
+take-fresh zero m h = refl
+take-fresh (suc n) zero h = absurd (omega arith)
+take-fresh (suc n) (suc m) h = ap (λ (l : List ℕ). 2 ∷ l) (take-fresh n m (omega arith))
+
+pub part-fresh : (n : ℕ) (cells : List ℕ) → n ≤ length cells → cells ≡ replicate 65536 2 → take (n - 0) cells ≡ replicate n 2
+part-fresh n cells fits fresh =
+    let small : n ≤ 65536 = subst (λ c. n ≤ c) (ap length fresh ∙ length-replicate {A = ℕ} 65536 2) fits in
+    let all : n - 0 ≡ n = omega arith in
+    ap₂ take all fresh ∙ take-fresh n 65536 small

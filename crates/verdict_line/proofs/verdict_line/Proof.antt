@@ -1,0 +1,45 @@
+-- `verdict_line`: the answer is finish's on a fresh table of the job's length.
+use Prim.Native.Nat.{ℕ, _≤_}
+use mathlib.Core.Path.{_≡_, refl, sym, _∙_, ap, subst}
+use lib.ListN.{replicate, length-replicate}
+use Rattle.text.specs.Decimal.{line, Short}
+use Rattle.job.specs.Job.{decode}
+use Rattle.job.specs.Answer.{numbers}
+use Rattle.cells.specs.Table.{tableLength}
+use Rattle.cells.specs.Calls.{finish, answer}
+use Rattle.calls.specs.Told.{finishTold}
+use Rattle.verdict_line.specs.VerdictLine.{verdictLine}
+use Rattle.verdict_line.proofs.TableLaws.{any-table}
+use Rattle.verdict_line.proofs.ShortLaws.{answer-short}
+use borrow.Author.Needs.{needs}
+use Rattle.verdict_line.proofs.verdict_line.Statement.{statement}
+use Rattle.verdict_line.proofs.verdict_line.Tie as tie
+
+finish-part-requires : tie.Need-finish-part-requires
+finish-part-requires c κs =
+    (subst (λ n. c .before .table-size .result ≤ n) (sym (length-replicate {A = ℕ} 65536 2)) (c .before .table-size .ensures .small), refl)
+
+answer-here :
+    (c : tie.After-finish-part)
+    → let x = c .before .before .before .before .args .text .now in
+    finishTold (c .finish-part .result) ≡ answer finish x (replicate (tableLength (decode x)) 2)
+answer-here c =
+    c .finish-part .ensures
+    ∙ any-table finish _ _ _ (λ own read. ap (λ n. replicate n 2) (c .before .before .table-size .ensures .right own read))
+
+said-requires : tie.Need-said-requires
+said-requires c κs = subst (λ a. Short (numbers a)) (sym (answer-here (c .before))) (answer-short _)
+
+returns : tie.Need-returns
+unfolding verdictLine
+returns c = c .said .ensures ∙ ap (λ a. line (numbers a)) (answer-here (c .before .before))
+
+pub verdict-line-spec : {M : Type 1} → statement M
+verdict-line-spec =
+    tie.close
+    (tie.spec
+    (λ c κs. search needs)
+    (λ c. search needs)
+    finish-part-requires
+    said-requires
+    returns)

@@ -1,0 +1,2 @@
+pub mod VerdictLine
+pub mod Leaves
