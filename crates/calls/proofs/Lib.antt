@@ -1,2 +1,1 @@
 pub mod HeadLaws
-pub mod FinishLaws

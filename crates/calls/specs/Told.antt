@@ -2,7 +2,7 @@
 use Prim.Native.Nat.{ℕ}
 use mathlib.Core.List.{[], _∷_}
 use Rattle.job.specs.Answer.{Answer, accepted, refused}
-use Rattle.job.specs.declared.reader.Refusal.{Refusal}
+use Rattle.job.specs.declared.reading.Refusal.{Refusal}
 use Rattle.calls.specs.declared.fresh.Cleared as cleared
 use Rattle.calls.specs.declared.step.Stepped as stepped
 use Rattle.calls.specs.declared.offer.Offered as offered

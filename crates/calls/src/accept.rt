@@ -3,12 +3,9 @@ ghost use mathlib.Core.Path.{_≡_};
 ghost use Rattle.cells.specs.Calls.{Call, answer, after};
 ghost use Rattle.calls.specs.Told.{acceptTold};
 use crate::offer::Message;
-use crate::read::read;
 use crate::refusal::by;
-use image::decode::decode;
-use job::reader::Reading;
-use job::reader::Refusal;
-use job::reader::refused_by;
+use decoding::read::read_image;
+use job::reading::Refusal;
 use questions::accept_no;
 use table::cell::put;
 
@@ -29,18 +26,28 @@ pub fn accept(text: &[u8], table: &mut [u8], node: usize, message: Message) -> D
         ≡ after (Call.accept node (message .state) (message .subformula) (message .value)) (now (text .entry)) (now (table .entry))
         ⌝ }
 {
-    let reading = read(text);
-    let Reading::Accepted(h) = reading else {
-        return Delivered::Refused(refused_by(reading));
-    };
     let mut m = [0u16; 13165];
-    decode(text, h, &mut m);
-    let s = message.state;
-    let k = message.subformula;
-    let v = message.value;
-    let no = accept_no(&m, table, node, s, k, v);
+    let why = read_image(text, &mut m);
+    if why.number != 0 {
+        return Delivered::Refused(why);
+    }
+    let no = accept_no(
+        &m,
+        table,
+        node,
+        message.state,
+        message.subformula,
+        message.value,
+    );
     if no != 0 {
         return Delivered::Refused(by(no));
     }
-    Delivered::Accepted(put(&m, table, node, s, k, v))
+    Delivered::Accepted(put(
+        &m,
+        table,
+        node,
+        message.state,
+        message.subformula,
+        message.value,
+    ))
 }

@@ -1,28 +1,17 @@
 // The call fresh.
 ghost use mathlib.Core.Path.{_≡_};
-ghost use Rattle.cells.specs.Table.{freshTable};
 ghost use Rattle.cells.specs.Calls.{Call, answer, after};
 ghost use Rattle.calls.specs.Told.{freshTold};
 use crate::read::read;
 use crate::refusal::by;
-use job::reader::Reading;
-use job::reader::Refusal;
-use job::reader::refused_by;
+use job::reading::Reading;
+use job::reading::Refusal;
+use layout::refusal::refused_by;
+use table::clear::clear;
 
 pub enum Cleared {
     Accepted,
     Refused(Refusal),
-}
-
-// Makes every cell empty.
-fn clear(table: &mut [u8])
-    ensures { λ _. ⌜ now (table .exit) ≡ freshTable (now (table .entry)) ⌝ }
-{
-    let mut i = 0;
-    while i < table.len() {
-        table[i] = 2;
-        i += 1;
-    }
 }
 
 // Makes a table of the job's length fresh, whatever it holds. A refusal leaves every byte.

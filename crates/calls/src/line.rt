@@ -1,7 +1,7 @@
 // The call line: a part of the caller's text.
 ghost use mathlib.Core.Path.{_≡_};
 ghost use Rattle.job.specs.Read.{lineOf};
-use job::layout::line_part;
+use layout::lines::line_part;
 
 // Line `number` itself: that part of the caller's text, the empty part where there is no such line.
 pub fn line(text: &[u8], number: usize) -> &[u8]

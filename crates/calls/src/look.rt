@@ -2,12 +2,9 @@
 ghost use mathlib.Core.Path.{_≡_};
 ghost use Rattle.cells.specs.Calls.{Call, answer, after};
 ghost use Rattle.calls.specs.Told.{lookTold};
-use crate::read::read;
 use crate::refusal::by;
-use image::decode::decode;
-use job::reader::Reading;
-use job::reader::Refusal;
-use job::reader::refused_by;
+use decoding::read::read_image;
+use job::reading::Refusal;
 use questions::look_no;
 use questions::node_read;
 use table::cell::cell;
@@ -23,12 +20,11 @@ pub fn look(text: &[u8], table: &[u8], node: usize, state: usize, subformula: us
     ensures told { λ r. ⌜ lookTold r ≡ answer (Call.look node state subformula) (now (text .entry)) (now (table .entry)) ⌝ }
     ensures left { λ _. ⌜ now (table .entry) ≡ after (Call.look node state subformula) (now (text .entry)) (now (table .entry)) ⌝ }
 {
-    let reading = read(text);
-    let Reading::Accepted(h) = reading else {
-        return Looked::Refused(refused_by(reading));
-    };
     let mut m = [0u16; 13165];
-    decode(text, h, &mut m);
+    let why = read_image(text, &mut m);
+    if why.number != 0 {
+        return Looked::Refused(why);
+    }
     let no = look_no(&m, table, node, state, subformula);
     if no != 0 {
         return Looked::Refused(by(no));

@@ -2,12 +2,9 @@
 ghost use mathlib.Core.Path.{_≡_};
 ghost use Rattle.cells.specs.Calls.{Call, answer, after};
 ghost use Rattle.calls.specs.Told.{offerTold};
-use crate::read::read;
 use crate::refusal::by;
-use image::decode::decode;
-use job::reader::Reading;
-use job::reader::Refusal;
-use job::reader::refused_by;
+use decoding::read::read_image;
+use job::reading::Refusal;
 use questions::offer_no;
 use table::cell::owner_cell;
 
@@ -28,12 +25,11 @@ pub fn offer(text: &[u8], table: &[u8], state: usize, subformula: usize) -> Offe
     ensures told { λ r. ⌜ offerTold r ≡ answer (Call.offer state subformula) (now (text .entry)) (now (table .entry)) ⌝ }
     ensures left { λ _. ⌜ now (table .entry) ≡ after (Call.offer state subformula) (now (text .entry)) (now (table .entry)) ⌝ }
 {
-    let reading = read(text);
-    let Reading::Accepted(h) = reading else {
-        return Offered::Refused(refused_by(reading));
-    };
     let mut m = [0u16; 13165];
-    decode(text, h, &mut m);
+    let why = read_image(text, &mut m);
+    if why.number != 0 {
+        return Offered::Refused(why);
+    }
     let no = offer_no(&m, table, state, subformula);
     if no != 0 {
         return Offered::Refused(by(no));

@@ -1,43 +1,11 @@
 // The call read: questions 1 to 8, put to any bytes.
 ghost use mathlib.Core.Path.{_≡_};
 ghost use Rattle.job.specs.Read.{readTold, readAnswer};
-use job::layout::head;
-use job::reader::Reading;
-use job::reader::bad_edge;
-use job::reader::bad_formula;
-use job::reader::bad_state;
-use job::reader::malformed_line;
-use job::reader::refuse;
-use job::reader::state_without_edge;
+use job::reading::Reading;
 
-// Questions 1 to 8.
+// The numbers of line 1, or the refusal.
 pub fn read(text: &[u8]) -> Reading
     ensures { λ r. ⌜ readTold r ≡ readAnswer (now (text .entry)) ⌝ }
 {
-    let head = head(text);
-    let Reading::Accepted(h) = head else {
-        return head;
-    };
-    let pairs = h.states + h.edges;
-    let bad = malformed_line(text, h);
-    if bad < pairs + h.subformulas {
-        return refuse(4, 2 + bad);
-    }
-    let bad = bad_state(text, h);
-    if bad < h.states {
-        return refuse(5, 2 + bad);
-    }
-    let bad = bad_edge(text, h);
-    if bad < h.edges {
-        return refuse(6, 2 + h.states + bad);
-    }
-    let bad = state_without_edge(text, h);
-    if bad < h.states {
-        return refuse(7, 2 + bad);
-    }
-    let bad = bad_formula(text, h);
-    if bad < h.subformulas {
-        return refuse(8, 2 + pairs + bad);
-    }
-    Reading::Accepted(h)
+    reader::read::read(text)
 }

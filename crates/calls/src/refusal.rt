@@ -1,6 +1,6 @@
 // The refusal by a question of a call's own.
 ghost use mathlib.Core.Path.{_≡_};
-use job::reader::Refusal;
+use job::reading::Refusal;
 
 // It is about no line.
 pub(crate) fn by(number: u8) -> Refusal

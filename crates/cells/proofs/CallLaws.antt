@@ -15,12 +15,12 @@ use Rattle.job.specs.Answer.{accepted, refused}
 use Rattle.job.specs.Question.{isOwn, ofCall, refusal, noNumber}
 use Rattle.job.specs.Questions.{textQuestions, Accepted}
 use Rattle.job.specs.Read.{readAnswer, readTold, refusalOf}
-use Rattle.job.specs.declared.reader.Header.{Header}
-use Rattle.job.specs.declared.reader.Refusal.{Refusal}
-use Rattle.job.specs.declared.reader.Reading.{Reading}
-use Rattle.job.specs.declared.reader.Reading.the-variants.{Accepted as Taken, Refused}
+use Rattle.job.specs.declared.reading.Header.{Header}
+use Rattle.job.specs.declared.reading.Refusal.{Refusal}
+use Rattle.job.specs.declared.reading.Reading.{Reading}
+use Rattle.job.specs.declared.reading.Reading.the-variants.{Accepted as Taken, Refused}
 use Rattle.job.proofs.QuestionLaws.{noNumber-yes, noNumber-no, later-accepted, later-refused}
-use Rattle.job.proofs.ReadLaws.{text-refuses, reading-refuses, size-read, subformulas-read, nodes-read}
+use Rattle.job.proofs.ReadLaws.{text-refuses, reading-refuses, size-told, subformulas-told, nodes-told}
 use Rattle.cells.specs.Table.{Table, tableLength, freshTable}
 use Rattle.cells.specs.Questions.{tableSize, tableCells, nodeBelow, nodeOr255, numbersBelow, temporalNamed, ownerFilled, truthValue, stateAtBorder, cellAgrees, stateInFragment, tableSettled, someOwnerEmpty}
 use Rattle.cells.specs.Calls.{Call, fresh, step, offer, accept, look, close, finish, told, left, ownQuestions, questions, width, answer, after}
@@ -90,4 +90,4 @@ module _ (x : Text) (t : Table) (is : Accepted x) where
 pub length-read :
     (x : Text) (h : Header) → readTold (Taken h) ≡ readAnswer x → tableLength (decode x) ≡ h .nodes * h .states * h .subformulas
 unfolding tableLength
-length-read x h told = ap₂ _*_ (ap₂ _*_ (nodes-read x h told) (size-read x h told)) (subformulas-read x h told)
+length-read x h told = ap₂ _*_ (ap₂ _*_ (nodes-told x h told) (size-told x h told)) (subformulas-told x h told)

@@ -10,7 +10,7 @@ use Rattle.job.specs.Job.{Job, subformulaCount}
 use Rattle.job.specs.Rule.{ruleAt, temporal, closedValue, quantifier, IsSets}
 use Rattle.job.specs.Written.{IsJob}
 use Rattle.job.proofs.RuleLaws.{sets-range}
-use Rattle.ctl.specs.Labelling.{label, reached, valued}
+use Rattle.ctl.specs.Labelling.{labelled, reached, valued}
 use Rattle.ctl.proofs.Labelling.{sat-label}
 use Rattle.cells.specs.Fragment.{inFragment}
 use Rattle.cells.specs.Table.{Table, cell, ownerCell}
@@ -35,7 +35,7 @@ module _
         → inFragment J n s ≡ true
         → cell J t n s (smallestOpen J t) ≡ 2
         → Tells 1 (closedValue (ruleAt J (smallestOpen J t))) (truth J (smallestOpen J t) s)
-    unfolding ownerCell isTemporal subformulaCount label
+    unfolding ownerCell isTemporal subformulaCount labelled
     sets-closed sets n s node i e =
         let k = smallestOpen J t in
         let r = ruleAt J k in
@@ -48,7 +48,7 @@ module _
         let truths : (s : ℕ) → truth J k s ≡ valued v (U s) =
         λ s.
         sat-label (J .structure) (J .formula) (job .operands) k some s
-        ∙ ap (λ f. label (J .structure) (truth J) f s) (sets .is) in
+        ∙ ap (λ f. labelled (J .structure) (truth J) f s) (sets .is) in
         let at : ℕ → ℕ → ℕ → ℕ = λ n j s. cell J t n s j in
         let outside =
         empty-outside J job q v small (λ n. at n k) (λ n. at n b) (λ n. at n a) (truth J b) (truth J a)

@@ -28,8 +28,8 @@ use Rattle.cells.proofs.Repeat.{bySets-at}
 use Rattle.job.proofs.Successors.{over-within, over-share}
 use Rattle.cells.proofs.FragmentLaws.{edge-bound}
 use Rattle.cells.proofs.Tells.{Tells, by-cell}
-use Rattle.cells.proofs.RightColumn.{Reads, reads-sets}
-use Rattle.cells.proofs.RightSets.{target, Telling, joins-target, smallest-target, largest-target}
+use Rattle.cells.proofs.RightColumn.{ReadsTruth, reads-sets}
+use Rattle.cells.proofs.RightSets.{reachedBy, Telling, joins-target, smallest-target, largest-target}
 
 -- The cell c, if filled, has the value d too.
 abbrev pub Keeps : ℕ → ℕ → Type 0
@@ -131,7 +131,7 @@ module _
     R′ = setRule q start′ grow′ v
 
     abbrev U : ℕ → Bool
-    U = target J R b a
+    U = reachedBy J R b a
 
     -- a later cell is empty, or of the value in the target, or of the other value outside it
     joins-kept : (X : ℕ → Bool) (s : ℕ) → s < size J → own′ s ≡ 2 → Joins J n own R X s → Joins J n own′ R′ X s
@@ -213,8 +213,8 @@ module _
     pub column-keeps :
         (r : Rule)
         → InRange k r
-        → Reads J T k r at
-        → Reads J T k r at′
+        → ReadsTruth J T k r at
+        → ReadsTruth J T k r at′
         → (s : ℕ)
         → s < size J
         → Keeps (getD (column J n at k r) s 2) (getD (column J n at′ k r) s 2)

@@ -19,7 +19,7 @@ use Rattle.job.specs.declared.rule.Rule.{Rule}
 use Rattle.job.proofs.RuleLaws.{operand-smaller}
 use Rattle.cells.specs.Table.{Table, cell}
 use Rattle.cells.specs.Step.{stepColumn, stepTable}
-use Rattle.cells.specs.Rest.{columnByte, isStale, reads, bears, Rested, Same, Marks}
+use Rattle.cells.specs.Rest.{columnByte, isStale, reads, bears, Rested, SameColumn, TellsChanges}
 use Rattle.cells.proofs.Columns.{column-reads}
 use Rattle.cells.proofs.Local.{columnOf, read-lt}
 use Rattle.cells.proofs.Idle.{stepColumn-idle, idle-column, stepTable-column}
@@ -33,7 +33,7 @@ reads-within k r o (suc i) h = omega (arith, operand-smaller k r o i (omega arit
 module _ (J : Job) (job : IsJob J) (n : ℕ) where
   -- The columns that column k reads are the same in both tables.
   abbrev pub SameReads : ℕ → Table → Table → Type 0
-  SameReads k t u = (i : ℕ) → i < length (reads k (ruleAt J k)) → Same J n (getD (reads k (ruleAt J k)) i 0) t u
+  SameReads k t u = (i : ℕ) → i < length (reads k (ruleAt J k)) → SameColumn J n (getD (reads k (ruleAt J k)) i 0) t u
 
   -- Then the step has the same for it, and it is idle in one where it is in the other.
   pub columnOf-same : (t u : Table) (k : ℕ) → SameReads k t u → columnOf J n k u ≡ columnOf J n k t
@@ -45,7 +45,7 @@ module _ (J : Job) (job : IsJob J) (n : ℕ) where
   pub idle-same : (t u : Table) (k : ℕ) → k < subformulaCount J → SameReads k t u → stepColumn J n k t ≡ t → stepColumn J n k u ≡ u
   unfolding reads
   idle-same t u k l same idle =
-      let own : Same J n k t u = same 0 (omega arith) in
+      let own : SameColumn J n k t u = same 0 (omega arith) in
       stepColumn-idle J n k u
       (λ s b e o. ap (λ values. getD values s 2) (columnOf-same t u k same) ∙ idle-column J n k t idle l s b (sym (own s b) ∙ e) o)
 
@@ -70,13 +70,13 @@ module _ (J : Job) (job : IsJob J) (n : ℕ) where
   pub rested-kept :
       (t u : Table) (stale stale′ : List ℕ)
       → Rested J n stale t
-      → Marks J n (columnByte n) stale t stale′ u
+      → TellsChanges J n (columnByte n) stale t stale′ u
       → Rested J n stale′ u
   unfolding bears
   rested-kept t u stale stale′ rested marks k l none =
       let r = ruleAt J k in
       let read = getD (reads k r) in
-      let kept : (i : ℕ) → i < length (reads k r) → (getD stale (columnByte n (read i 0)) 0 ≡ 0) × Same J n (read i 0) t u =
+      let kept : (i : ℕ) → i < length (reads k r) → (getD stale (columnByte n (read i 0)) 0 ≡ 0) × SameColumn J n (read i 0) t u =
       λ i h.
       let low = reads-within k r (job .operands k l) i h in
       marks (read i 0) (omega arith) (unmarked stale′ k r none i h) in

@@ -8,26 +8,26 @@ use Rattle.job.specs.Rule.{InRange, quantifier}
 use Rattle.job.specs.Written.{IsJob}
 use Rattle.job.specs.declared.rule.Rule.{Rule}
 use Rattle.job.specs.declared.rule.Rule.the-variants.{Atom, Not, And, Next, Sets}
-use Rattle.ctl.specs.Labelling.{reached, label}
+use Rattle.ctl.specs.Labelling.{reached, labelled}
 use Rattle.cells.specs.SetRule.{setRule, bySets}
 use Rattle.cells.specs.Step.{opposite, both, next, column}
 use Rattle.cells.proofs.Tells.{Tells, atom-tells, opposite-tells, both-tells, next-tells, tells-valued, valued-tells}
-use Rattle.cells.proofs.RightSets.{target, Telling, bySets-tells}
+use Rattle.cells.proofs.RightSets.{reachedBy, Telling, bySets-tells}
 
 -- The cells `at` of a node, by subformula and state, that the column of subformula k by rule r reads are right about the truths T of
 -- smaller subformulas, and so are its own.
-pub record Reads (J : Job) (T : ℕ → ℕ → Bool) (k : ℕ) (r : Rule) (at : ℕ → ℕ → ℕ) : Type 0 where
+pub record ReadsTruth (J : Job) (T : ℕ → ℕ → Bool) (k : ℕ) (r : Rule) (at : ℕ → ℕ → ℕ) : Type 0 where
   pub low : (j s : ℕ) → at j s ≤ 2
   pub operands : (j s : ℕ) → j < k → s < size J → Tells 1 (at j s) (T j s)
-  pub own : (s : ℕ) → s < size J → Tells 1 (at k s) (label (J .structure) T r s)
+  pub own : (s : ℕ) → s < size J → Tells 1 (at k s) (labelled (J .structure) T r s)
 
 module _ (J : Job) (T : ℕ → ℕ → Bool) (k : ℕ) (at : ℕ → ℕ → ℕ) where
   pub reads-sets :
       (all : Bool) (b a v : ℕ)
       → InRange k (Sets all b a v)
-      → Reads J T k (Sets all b a v) at
+      → ReadsTruth J T k (Sets all b a v) at
       → Telling J (at k) (setRule (quantifier all) (at b) (at a) v) (T b) (T a)
-  unfolding InRange label
+  unfolding InRange labelled
   reads-sets all b a v (lb, la, small) reads =
       record {
         owns = λ s l. valued-tells v (at k s) (reached (J .structure) (quantifier all) (T b) (T a) s) small (reads .own s l);
@@ -39,11 +39,11 @@ module _ (J : Job) (T : ℕ → ℕ → Bool) (k : ℕ) (at : ℕ → ℕ → �
     pub column-tells :
         (r : Rule)
         → InRange k r
-        → Reads J T k r at
+        → ReadsTruth J T k r at
         → (s : ℕ)
         → s < size J
-        → Tells 1 (getD (column J n at k r) s 2) (label (J .structure) T r s)
-    unfolding column InRange label
+        → Tells 1 (getD (column J n at k r) s 2) (labelled (J .structure) T r s)
+    unfolding column InRange labelled
     column-tells (Atom j) o reads s l =
         rw (tab-at (λ u. cond {A = ℕ} (atom (J .structure) j u) 1 0) (size J) s 2 l) (atom-tells (atom (J .structure) j s))
     column-tells (Not a) o reads s l =
@@ -57,5 +57,5 @@ module _ (J : Job) (T : ℕ → ℕ → Bool) (k : ℕ) (at : ℕ → ℕ → �
         (next-tells J job n (quantifier all) (at a) (T a) (λ u. reads .operands a u o) s)
     column-tells (Sets all b a v) o reads s l =
         let R = setRule (quantifier all) (at b) (at a) v in
-        tells-valued v (getD (bySets J n (at k) R) s 2) (target J R (T b) (T a) s) (o .2)
+        tells-valued v (getD (bySets J n (at k) R) s 2) (reachedBy J R (T b) (T a) s) (o .2)
         (bySets-tells J n (at k) R (T b) (T a) (reads-sets all b a v o reads) (o .2) s l)

@@ -21,7 +21,7 @@ use Rattle.cells.specs.Close.{isTemporal, acceptTable, copyTable}
 use Rattle.cells.proofs.Index.{index-lt}
 use Rattle.cells.proofs.Fill.{fill-cell}
 use Rattle.cells.proofs.Tells.{Tells, cond-tells, empty-tells}
-use Rattle.cells.proofs.RightColumn.{Reads, column-tells}
+use Rattle.cells.proofs.RightColumn.{ReadsTruth, column-tells}
 use Rattle.cells.proofs.Formed.{Formed, freshTable-formed, cell-low, stepColumn-formed, acceptTable-formed, copyTable-formed}
 
 -- Subformula k is true at state s.
@@ -77,7 +77,7 @@ module _ (J : Job) (job : IsJob J) (t : Table) (sound : Sound J t) where
       (n k : ℕ)
       → n < J .nodes
       → k < subformulaCount J
-      → Reads J (truth J) k (ruleAt J k) (λ j s. cell J t n s j)
+      → ReadsTruth J (truth J) k (ruleAt J k) (λ j s. cell J t n s j)
   unfolding subformulaCount
   sound-reads n k a c =
       record {

@@ -19,7 +19,7 @@ use Rattle.cells.specs.Fragment.{border}
 use Rattle.cells.specs.Table.{Table, cell, ownerCell}
 use Rattle.cells.specs.Step.{stepTable}
 use Rattle.cells.specs.Close.{isTemporal, copyTable, smallestOpen, closeTable}
-use Rattle.cells.specs.Rest.{columnByte, Copied, Tracked, Same, Marks, Mark, BytesAre}
+use Rattle.cells.specs.Rest.{columnByte, Copied, Tracked, SameColumn, TellsChanges, Mark, BytesAre}
 use Rattle.cells.proofs.Fill.{fill-cell-new, fill-cell-left}
 use Rattle.cells.proofs.Grown.{grown-cell-empty, copyTable-grown, closeTable-grown}
 use Rattle.cells.proofs.Local.{stepTable-node}
@@ -65,11 +65,11 @@ module _ (at : ℕ → ℕ) (v : ℕ) (before : List ℕ) where
 
 -- Marks of the columns of a node, one change after another.
 module _ (J : Job) (n : ℕ) (at : ℕ → ℕ) where
-  pub marks-none : (t : Table) (marks : List ℕ) → Marks J n at marks t marks t
+  pub marks-none : (t : Table) (marks : List ℕ) → TellsChanges J n at marks t marks t
   marks-none t marks k l e = (e, λ s b. refl)
 
   pub marks-after :
-      (t u v : Table) (a b c : List ℕ) → Marks J n at a t b u → Marks J n at b u c v → Marks J n at a t c v
+      (t u v : Table) (a b c : List ℕ) → TellsChanges J n at a t b u → TellsChanges J n at b u c v → TellsChanges J n at a t c v
   marks-after t u v a b c first second k l e =
       let (later, same) = second k l e in
       let (before, kept) = first k l later in
@@ -78,8 +78,8 @@ module _ (J : Job) (n : ℕ) (at : ℕ → ℕ) where
   pub mark-marks :
       (t u : Table) (i : ℕ) (before after : List ℕ)
       → Mark t u i before after
-      → ((k : ℕ) → k < subformulaCount J → (at k ≡ i → ⊥) → Same J n k t u)
-      → Marks J n at before t after u
+      → ((k : ℕ) → k < subformulaCount J → (at k ≡ i → ⊥) → SameColumn J n k t u)
+      → TellsChanges J n at before t after u
   mark-marks t u i before after mark others k l e =
       by-equal (at k) i
       (λ here.
@@ -89,7 +89,7 @@ module _ (J : Job) (n : ℕ) (at : ℕ → ℕ) where
 
 -- What there is to copy.
 module _ (J : Job) where
-  pub copied-same : (t u : Table) (k : ℕ) → ((n : ℕ) → Same J n k t u) → Copied J t k → Copied J u k
+  pub copied-same : (t u : Table) (k : ℕ) → ((n : ℕ) → SameColumn J n k t u) → Copied J t k → Copied J u k
   unfolding ownerCell
   copied-same t u k same copied n s a b o m e =
       same (owner J s) s b ∙ copied n s a b o m (sym (same n s b) ∙ e)
@@ -121,7 +121,7 @@ module _ (J : Job) (t : Table) where
       fill-cell-new J _ t n s k b l empty (border-inside J n s o) ∙ cond-true (eqb k k) v 2 (eq-eqb k k refl) in
       absurd (omega (arith, closed-bound (ruleAt J k)))
 
-  pub closeTable-other : (n k : ℕ) → k < subformulaCount J → (k ≡ smallestOpen J t → ⊥) → Same J n k t (closeTable J t)
+  pub closeTable-other : (n k : ℕ) → k < subformulaCount J → (k ≡ smallestOpen J t → ⊥) → SameColumn J n k t (closeTable J t)
   unfolding closeTable
   closeTable-other n k l apart s b =
       fill-cell-left J _ t n s k b l (cond-false (eqb k (smallestOpen J t)) (closedValue (ruleAt J (smallestOpen J t))) 2 (ne-eqb k (smallestOpen J t) apart))
@@ -150,7 +150,7 @@ module _ (J : Job) (job : IsJob J) where
         → length stale′ ≡ length stale
         → ((m k : ℕ) → k < 32 → (m ≡ n → ⊥) → getD stale′ (columnByte m k) 0 ≡ getD stale (columnByte m k) 0)
         → length news′ ≡ length news
-        → Marks J n (λ k. k) news t news′ (stepTable J n t)
+        → TellsChanges J n (λ k. k) news t news′ (stepTable J n t)
         → Tracked J stale′ news′ (stepTable J n t)
     step-tracked n stale′ news′ stale-long rows news-long marks =
         record {
@@ -175,7 +175,7 @@ module _ (J : Job) (job : IsJob J) where
     pub copy-tracked :
         (stale′ news′ : List ℕ)
         → length stale′ ≡ length stale
-        → ((n : ℕ) → Marks J n (columnByte n) stale t stale′ (copyTable J t))
+        → ((n : ℕ) → TellsChanges J n (columnByte n) stale t stale′ (copyTable J t))
         → length news′ ≡ length news
         → Tracked J stale′ news′ (copyTable J t)
     copy-tracked stale′ news′ stale-long marks news-long =

@@ -59,13 +59,13 @@ pub record Tracked (J : Job) (stale news : List ℕ) (t : Table) : Type 0 where
   pub exchanged : Exchanged J news t
 
 -- A column has the same cells in both tables.
-abbrev pub Same : Job → ℕ → ℕ → Table → Table → Type 0
-Same J n k t u = (s : ℕ) → s < size J → cell J u n s k ≡ cell J t n s k
+abbrev pub SameColumn : Job → ℕ → ℕ → Table → Table → Type 0
+SameColumn J n k t u = (s : ℕ) → s < size J → cell J u n s k ≡ cell J t n s k
 
 -- Between two tables the columns of node n that differ were marked, column k at byte `at k`: a column without a mark had none before.
-abbrev pub Marks : Job → ℕ → (ℕ → ℕ) → List ℕ → Table → List ℕ → Table → Type 0
-Marks J n at before t after u =
-    (k : ℕ) → k < subformulaCount J → getD after (at k) 0 ≡ 0 → (getD before (at k) 0 ≡ 0) × Same J n k t u
+abbrev pub TellsChanges : Job → ℕ → (ℕ → ℕ) → List ℕ → Table → List ℕ → Table → Type 0
+TellsChanges J n at before t after u =
+    (k : ℕ) → k < subformulaCount J → getD after (at k) 0 ≡ 0 → (getD before (at k) 0 ≡ 0) × SameColumn J n k t u
 
 -- One byte is marked if the tables differ, the others are as they were.
 pub record Mark (t u : Table) (i : ℕ) (before after : List ℕ) : Type 0 where

@@ -28,10 +28,10 @@ module _ (J : Job) (t : Table) where
   unfolding open?
   open-nowhere k = any-none (λ s. isEmpty (ownerCell J t s k)) (size J)
 
-  pub smallest-is :
+  pub smallest-open-is :
       (k : ℕ) → k < subformulaCount J → ((j : ℕ) → j < k → open? J t j ≡ false) → open? J t k ≡ true → (k ≡ smallestOpen J t) × (k ≤ subformulaCount J)
   unfolding smallestOpen
-  smallest-is k l before here = (sym (first-is (open? J t) (subformulaCount J) k l before here), omega arith)
+  smallest-open-is k l before here = (sym (first-is (open? J t) (subformulaCount J) k l before here), omega arith)
 
   pub smallest-none : (k : ℕ) → k ≡ subformulaCount J → ((j : ℕ) → j < k → open? J t j ≡ false) → (k ≡ smallestOpen J t) × (k ≤ subformulaCount J)
   unfolding smallestOpen

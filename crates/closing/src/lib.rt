@@ -1,8 +1,10 @@
 // Closing: the smallest subformula for which some owner's cell is empty, and filling what is empty of it.
 ghost use mathlib.Core.Path.{_≡_};
 ghost use Prim.Native.Nat.{_<_, _≤_};
+ghost use mathlib.Core.List.{[], _∷_};
 ghost use lib.ListN.{length};
 ghost use Rattle.job.specs.Job.{subformulaCount};
+ghost use Rattle.cells.specs.Calls.{Call, told, left};
 ghost use Rattle.cells.specs.Close.{smallestOpen, closeTable};
 ghost use Rattle.cells.specs.Rest.{columnByte, BytesAre};
 ghost use Rattle.image.specs.Image.{IsImage, jobOf};
@@ -69,6 +71,27 @@ pub fn close_column(m: &Image, table: &mut [u8], k: usize) -> usize
         filled += close_node(m, table, n, k, v);
     }
     filled
+}
+
+// The subformula that is closed, and how many cells are filled.
+pub struct Closing {
+    pub subformula: usize,
+    pub filled: usize,
+}
+
+// Closes the smallest open subformula, where there is one: what the call close does to a settled table.
+pub fn close_smallest(m: &Image, table: &mut [u8]) -> Closing
+    requires { ⌜ Lent (now m) (now table) ⌝ }
+    requires { ⌜ smallestOpen (jobOf (now m)) (now table) < subformulaCount (jobOf (now m)) ⌝ }
+    ensures { λ r. ⌜ (r .subformula ∷ r .filled ∷ []) ≡ told Call.close (jobOf (now (m .entry))) (now (table .entry)) ⌝ }
+    ensures { λ _. ⌜ now (table .exit) ≡ left Call.close (jobOf (now (m .entry))) (now (table .entry)) ⌝ }
+{
+    let k = smallest_open(m, table);
+    let filled = close_column(m, table, k);
+    Closing {
+        subformula: k,
+        filled,
+    }
 }
 
 // Every node's column of subformula k is stale: it is closed.

@@ -13,7 +13,7 @@ use Rattle.job.specs.Written.{Operands}
 use Rattle.job.specs.declared.subformula.Subformula.{Subformula}
 use Rattle.job.specs.declared.rule.Rule.{Rule}
 use Rattle.job.specs.declared.rule.Rule.the-variants.{Atom, Not, And, Next, Sets}
-use Rattle.ctl.specs.Labelling.{reached, valued, label, labelling, sat}
+use Rattle.ctl.specs.Labelling.{reached, valued, labelled, labelling, sat}
 
 -- Operands have smaller numbers: the field `operands` of a job.
 abbrev pub Smaller : List Subformula → Type 0
@@ -25,8 +25,8 @@ pub label-same :
     → ((a : ℕ) → a < k → p a ≡ q a)
     → (r : Rule)
     → InRange k r
-    → label M p r ≡ label M q r
-unfolding label InRange
+    → labelled M p r ≡ labelled M q r
+unfolding labelled InRange
 label-same M p q k same (Atom j) o = refl
 label-same M p q k same (Not a) o = ap (λ x s. not (x s)) (same a o)
 label-same M p q k same (And a b) o = ap₂ (λ x y s. x s && y s) (same a (o .0)) (same b (o .1))
@@ -46,7 +46,7 @@ module _ (M : Structure) (f : List Subformula) (smaller : Smaller f) where
       (ruleOf (subformula f k)) (smaller k l)
 
   -- The fuel that `sat` has is one of them.
-  pub sat-label : (k : ℕ) → k < length f → (s : ℕ) → sat M f k s ≡ label M (sat M f) (ruleOf (subformula f k)) s
+  pub sat-label : (k : ℕ) → k < length f → (s : ℕ) → sat M f k s ≡ labelled M (sat M f) (ruleOf (subformula f k)) s
   unfolding sat labelling
   sat-label k l s =
       ap (λ x. x s)

@@ -12,20 +12,20 @@ use Rattle.job.specs.Rule.{InRange}
 use Rattle.job.specs.Written.{Operands}
 use Rattle.job.specs.declared.subformula.Subformula.{Subformula}
 use Rattle.job.specs.declared.subformula.Subformula.the-variants.{Atom, And}
-use Rattle.ctl.specs.Truth.{within, Holds}
+use Rattle.ctl.specs.Truth.{truthUpTo, Holds}
 use Rattle.ctl.specs.Renaming.{Renames}
 use Rattle.ctl.proofs.Truth.{meaning-renamed}
 
 module _ (M : Structure) (ρ : ℕ → ℕ) (f g : List Subformula) (bound : ℕ) (renames : Renames ρ f bound g) where
   -- Any fuels above k and above ρ k: an operand of line k is below k, and its new number is an operand of line ρ k, so below ρ k.
   within-renamed :
-      (n m k : ℕ) → k < n → ρ k < m → k < bound → (s : ℕ) → within M f n k s ↔ within M g m (ρ k) s
-  unfolding within
+      (n m k : ℕ) → k < n → ρ k < m → k < bound → (s : ℕ) → truthUpTo M f n k s ↔ truthUpTo M g m (ρ k) s
+  unfolding truthUpTo
   within-renamed zero m k h h′ l s = absurd (not-suc-le-zero h)
   within-renamed (suc n) zero k h h′ l s = absurd (not-suc-le-zero h′)
   within-renamed (suc n) (suc m) k h h′ l s =
       rw (renames .same k l)
-      (meaning-renamed M ρ k (ρ k) (within M f n) (within M g m)
+      (meaning-renamed M ρ k (ρ k) (truthUpTo M f n) (truthUpTo M g m)
       (λ a x y. within-renamed n m a (omega arith) (omega arith) (omega arith))
       (subformula f k) (renames .left k l) (rw (renames .same k l) at (renames .right k l)) s)
 

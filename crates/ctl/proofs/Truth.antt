@@ -15,8 +15,8 @@ use Rattle.job.specs.Written.{Operands}
 use Rattle.job.specs.declared.subformula.Subformula.{Subformula}
 use Rattle.job.specs.declared.subformula.Subformula.the-variants.{Atom, Not, And, Ax, Ex, Au, Eu}
 use Rattle.job.proofs.Successors.{over-all, over-some}
-use Rattle.ctl.specs.Truth.{Predicate, Edge, Walk, Until, meaning, within, Holds}
-use Rattle.ctl.specs.Labelling.{label, labelling, sat}
+use Rattle.ctl.specs.Truth.{Predicate, Leads, Walk, Until, meaning, truthUpTo, Holds}
+use Rattle.ctl.specs.Labelling.{labelled, labelling, sat}
 use Rattle.ctl.proofs.Total.{State, Total}
 use Rattle.ctl.proofs.Untils.{OnWalks, Decides, walks-reached}
 
@@ -68,8 +68,8 @@ module _ (M : Structure) (ρ : ℕ → ℕ) (k j : ℕ) (P Q : ℕ → Predicate
 module _ (M : Structure) (total : Total M) where
   -- Where Bools decide what the operands say, the label decides what the subformula says.
   module _ (holds : ℕ → Predicate) (sat : ℕ → ℕ → Bool) (decides : (a : ℕ) → Decides M (holds a) (sat a)) where
-    meaning-label : (g : Subformula) → Decides M (meaning M holds g) (label M sat (ruleOf g))
-    unfolding meaning label Edge OnWalks
+    meaning-label : (g : Subformula) → Decides M (meaning M holds g) (labelled M sat (ruleOf g))
+    unfolding meaning labelled Leads OnWalks
     meaning-label (Atom j) s l = (λ h. h, λ h. h)
     meaning-label (Not a) s l = not-decides (holds a s) (sat a s) (decides a s l)
     meaning-label (And a b) s l = (
@@ -88,10 +88,10 @@ module _ (M : Structure) (total : Total M) where
     meaning-label (Eu a b) s l = walks-reached M total (sat b) (sat a) (holds a) (holds b) (decides a) (decides b) exists s l
 
   -- Both have the same fuel, so this goes through every subformula.
-  within-labelling : (f : List Subformula) (n k : ℕ) → Decides M (within M f n k) (labelling M f n k)
-  unfolding within labelling
+  within-labelling : (f : List Subformula) (n k : ℕ) → Decides M (truthUpTo M f n k) (labelling M f n k)
+  unfolding truthUpTo labelling
   within-labelling f zero k s l = (λ h. absurd h, λ e. absurd (true≢false (sym e)))
-  within-labelling f (suc n) k s l = meaning-label (within M f n) (labelling M f n) (within-labelling f n) (subformula f k) s l
+  within-labelling f (suc n) k s l = meaning-label (truthUpTo M f n) (labelling M f n) (within-labelling f n) (subformula f k) s l
 
   pub holds-sat : (f : List Subformula) (k s : ℕ) → State M s → Holds M f k s ↔ (sat M f k s ≡ true)
   unfolding Holds sat

@@ -25,16 +25,16 @@ abbrev pub valued : ℕ → Bool → Bool
 valued v inside = cond (eqb v 1) inside (not inside)
 
 -- The states of a subformula by its rule, given those of its operands.
-unfoldable pub label : Structure → (ℕ → ℕ → Bool) → Rule → ℕ → Bool
-label M sat (Atom j) s = atom M j s
-label M sat (Not a) s = not (sat a s)
-label M sat (And a b) s = sat a s && sat b s
-label M sat (Next all a) s = over M (quantifier all) s (sat a)
-label M sat (Sets all start grow v) s = valued v (reached M (quantifier all) (sat start) (sat grow) s)
+unfoldable pub labelled : Structure → (ℕ → ℕ → Bool) → Rule → ℕ → Bool
+labelled M sat (Atom j) s = atom M j s
+labelled M sat (Not a) s = not (sat a s)
+labelled M sat (And a b) s = sat a s && sat b s
+labelled M sat (Next all a) s = over M (quantifier all) s (sat a)
+labelled M sat (Sets all start grow v) s = valued v (reached M (quantifier all) (sat start) (sat grow) s)
 
 unfoldable pub labelling : Structure → List Subformula → ℕ → ℕ → ℕ → Bool
 labelling M f zero k s = false
-labelling M f (suc n) k s = label M (labelling M f n) (ruleOf (subformula f k)) s
+labelling M f (suc n) k s = labelled M (labelling M f n) (ruleOf (subformula f k)) s
 
 -- Subformula k of f is labelled true at state s.
 unfoldable pub sat : Structure → List Subformula → ℕ → ℕ → Bool

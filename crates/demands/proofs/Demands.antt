@@ -1,5 +1,5 @@
 -- The demands, sentence by sentence and in their words, each proved by citing what did the work. What a call comes to is said by its function's
--- contract: `Happens l x c t a u`, the call c with text x on table t answers a and leaves u. The words are those of `specs/`. Assumes nothing.
+-- contract: `Happens l x c t a u`, the call c with text x on table t answers a and leaves u. The words are those of `promises/specs`. Assumes nothing.
 use Prim.Native.Nat.{ℕ}
 use mathlib.Core.Path.{_≡_}
 use mathlib.Core.List.{List, _∷_}
@@ -13,25 +13,26 @@ use Rattle.cells.specs.Table.{Table}
 use Rattle.cells.specs.SetRule.{SetRule}
 use Rattle.cells.specs.Calls.{Call, step, finish, questions, width, told}
 use Rattle.cells.specs.Cases.{bytes, jobV, job2, job3}
-use Rattle.demands.specs.Contracts.{Lent, Happens, Reads, HandsBack, Prints, MayHappen}
-use Rattle.demands.specs.Demand1.{AsksNothing, Proved, AnswersBy}
-use Rattle.demands.specs.Demand2.{Accepts, JobText, FilledByRules, SmallestAndLargest, Judged}
-use Rattle.demands.specs.Demand3.{FreshFor, ListOfCalls, leftBy, AsDefined, CellsTrue, OneMoreFinish, OneMachine}
+use Rattle.promises.specs.Contracts.{Loan, Happens, Reads, HandsBack, Prints, MayHappen}
+use Rattle.promises.specs.Demand1.{AnswersBy}
+use Rattle.promises.specs.Demand2.{Accepts, JobText, FilledByRules, SmallestAndLargest, Judged}
+use Rattle.promises.specs.Demand3.{FreshFor, ListOfCalls, leftBy, AsDefined, CellsTrue, OneMoreFinish, OneMachine}
+use Rattle.demands.specs.Functions.{AsksNothing, Proved}
 use Rattle.demands.proofs.Proved.{asks-nothing, proved}
-use Rattle.demands.proofs.Contracts.{back-defined, may-happen}
-use Rattle.demands.proofs.Calls.{happens-first, happens-stays}
-use Rattle.demands.proofs.Reading.{reads-first, reads-exact}
-use Rattle.demands.proofs.Filled.{happens-filled, sets-are}
-use Rattle.demands.proofs.Ends.{calls-defined, calls-cells, calls-finish, fresh-finish, same-verdict}
-use Rattle.demands.proofs.Judged.{prints-judged}
-use Rattle.demands.proofs.Hypotheses.{fresh-for, one-machine, example}
+use Rattle.promises.proofs.Contracts.{back-defined, may-happen}
+use Rattle.promises.proofs.Calls.{happens-first, happens-stays}
+use Rattle.promises.proofs.Reading.{reads-first, reads-exact}
+use Rattle.promises.proofs.Filled.{happens-filled, sets-are}
+use Rattle.promises.proofs.Ends.{calls-defined, calls-cells, calls-finish, fresh-finish, same-verdict}
+use Rattle.promises.proofs.Judged.{prints-judged}
+use Rattle.promises.proofs.Hypotheses.{fresh-for, one-machine, example}
 
 -- Demand 1. "Any bytes and any numbers:
 pub any-bytes-and-any-numbers : AsksNothing
 any-bytes-and-any-numbers = asks-nothing
 
 -- every call reads or refuses under the number of the first check that fails,
-module _ (l : Lent) (x : Text) where
+module _ (l : Loan) (x : Text) where
   pub reads-or-refuses : (c : Call) (t u : Table) (a : Answer) → Happens l x c t a u → AnswersBy (questions c x t) (width c) (told c (decode x) t) a
   reads-or-refuses = happens-first l x
 
@@ -51,12 +52,12 @@ pub every-call-ends : {M : Type 1} → Proved M
 every-call-ends = proved
 
 -- Demand 2. "Reading accepts exactly the job layout;
-pub reading-is-exact : (l : Lent) (x : Text) (a : Answer) → Reads l x a → Accepts a ↔ JobText x
+pub reading-is-exact : (l : Loan) (x : Text) (a : Answer) → Reads l x a → Accepts a ↔ JobText x
 reading-is-exact l x = reads-exact x l
 
 -- a step fills exactly the cells that the rules fill;
 pub step-fills-by-the-rules :
-    (l : Lent) (x : Text) (n : ℕ) (t u : Table) (own : List ℕ) → Happens l x (step n) t (accepted own) u → FilledByRules (decode x) n t own u
+    (l : Loan) (x : Text) (n : ℕ) (t u : Table) (own : List ℕ) → Happens l x (step n) t (accepted own) u → FilledByRules (decode x) n t own u
 step-fills-by-the-rules = happens-filled
 
 pub sets-of-the-rules : (J : Job) (n : ℕ) (own : ℕ → ℕ) (R : SetRule) → SmallestAndLargest J n own R
@@ -66,7 +67,7 @@ sets-of-the-rules = sets-are
 pub verdict-from-fresh : (x : Text) (t : Table) → FreshFor x t → OneMoreFinish x t
 verdict-from-fresh = fresh-finish
 
-pub printed-is-truth : (l : Lent) (x : Text) (said : List ℕ) → Prints l x said → Judged x said
+pub printed-is-truth : (l : Loan) (x : Text) (said : List ℕ) → Prints l x said → Judged x said
 printed-is-truth l x = prints-judged x l
 
 -- Demand 3. "Whatever list of calls is made from a fresh table, refused ones and late, repeated, overtaken messages included: each call fills
@@ -79,14 +80,14 @@ demand-3 x calls = (calls-defined x calls, calls-cells x calls, calls-finish x c
 -- So two cuttings of one job always agree."
 pub cuttings-agree :
     (x y : Text) (same : OneMachine x y) (calls : ListOfCalls x) (others : ListOfCalls y)
-    → (l m : Lent) (v w : ℕ) (more rest : List ℕ) (t u : Table)
+    → (l m : Loan) (v w : ℕ) (more rest : List ℕ) (t u : Table)
     → Happens l x finish (leftBy calls) (accepted (v ∷ more)) t
     → Happens m y finish (leftBy others) (accepted (w ∷ rest)) u
     → v ≡ w
 cuttings-agree = same-verdict
 
 -- What is supposed here can be had: what is defined may happen, a table fresh for a text, two cuttings of one machine, a list with messages.
-pub defined-may-happen : (l : Lent) (x : Text) → MayHappen l x
+pub defined-may-happen : (l : Loan) (x : Text) → MayHappen l x
 defined-may-happen = may-happen
 
 pub fresh-tables : (x : Text) → Accepted x → (t : Table) × FreshFor x t

@@ -9,7 +9,7 @@ use Rattle.calls.proofs.look.look.Met.{met as look-met}
 use Rattle.calls.proofs.close.close.Met.{met as close-met}
 use Rattle.calls.proofs.finish.finish.Met.{met as finish-met}
 use Rattle.verdict_line.proofs.verdict_line.Met.{met as verdict-line-met}
-use Rattle.demands.specs.Demand1.{AsksNothing, Proved}
+use Rattle.demands.specs.Functions.{AsksNothing, Proved}
 
 pub asks-nothing : AsksNothing
 asks-nothing =

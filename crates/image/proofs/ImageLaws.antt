@@ -14,8 +14,7 @@ use Rattle.job.specs.Formula as lines
 use Rattle.job.specs.declared.subformula.Parsed.{Parsed}
 use Rattle.job.specs.declared.subformula.Subformula.{Subformula}
 use Rattle.job.specs.declared.subformula.Subformula.the-variants.{Atom}
-use Rattle.image.specs.Image.{IsImage, jobOf, word, byNode, from, to, firstEdge, leads, lastInto, fragmentSize, fragmentState, OWNERS, LABELS, SOURCES, TARGETS, KINDS, LEFTS, RIGHTS, FIRST, LAST, NEXT, SIZES, MEMBERS}
-use Rattle.image.specs.Laid.{Denotes, chainOf}
+use Rattle.image.specs.Image.{IsImage, Denotes, jobOf, word, byNode, edgeFrom, edgeTo, firstEdge, leads, lastInto, fragmentSize, fragmentState, OWNERS, LABELS, SOURCES, TARGETS, KINDS, LEFTS, RIGHTS, FIRST, LAST, NEXT, SIZES, MEMBERS}
 use Rattle.image.proofs.Ranks.{fragment-small, state-below}
 use Rattle.image.proofs.Runs.{from-in, to-in, first-few}
 
@@ -62,12 +61,12 @@ module _ (m : List ℕ) where
   unfolding jobOf
   edge-word e l = tab-at (λ d. record { from = word m SOURCES d; to = word m TARGETS d }) (getD m 1 0) e noEdge (omega (arith, edges-word))
 
-  pub from-word : (e : ℕ) → e < edgeCount J → from (J .structure) e ≡ word m SOURCES e
-  unfolding from
+  pub from-word : (e : ℕ) → e < edgeCount J → edgeFrom (J .structure) e ≡ word m SOURCES e
+  unfolding edgeFrom
   from-word e l = ap (λ (d : Edge). d .from) (edge-word e l)
 
-  pub to-word : (e : ℕ) → e < edgeCount J → to (J .structure) e ≡ word m TARGETS e
-  unfolding to
+  pub to-word : (e : ℕ) → e < edgeCount J → edgeTo (J .structure) e ≡ word m TARGETS e
+  unfolding edgeTo
   to-word e l = ap (λ (d : Edge). d .to) (edge-word e l)
 
   pub formula-word :
@@ -111,34 +110,22 @@ module _ (J : Job) (m : List ℕ) (d : Denotes J m) where
       (omega arith, omega arith, omega arith)
 
   pub source-read :
-      (e : ℕ) → e < edgeCount J → (r : ℕ) → r ≡ word m SOURCES e → (r ≡ from (J .structure) e) × (r < size J) × (r < 256)
+      (e : ℕ) → e < edgeCount J → (r : ℕ) → r ≡ word m SOURCES e → (r ≡ edgeFrom (J .structure) e) × (r < size J) × (r < 256)
   source-read e l r q =
-      let at = subst (λ (K : Job). e < edgeCount K → from (K .structure) e ≡ word m SOURCES e) (d .is) (from-word m e) in
+      let at = subst (λ (K : Job). e < edgeCount K → edgeFrom (K .structure) e ≡ word m SOURCES e) (d .is) (from-word m e) in
       let w = at l in
       let o = from-in J (d .is-job) e l in
       let b = d .is-job .states in
       (omega arith, omega arith, omega arith)
 
   pub target-read :
-      (e : ℕ) → e < edgeCount J → (r : ℕ) → r ≡ word m TARGETS e → (r ≡ to (J .structure) e) × (r < size J) × (r < 256)
+      (e : ℕ) → e < edgeCount J → (r : ℕ) → r ≡ word m TARGETS e → (r ≡ edgeTo (J .structure) e) × (r < size J) × (r < 256)
   target-read e l r q =
-      let at = subst (λ (K : Job). e < edgeCount K → to (K .structure) e ≡ word m TARGETS e) (d .is) (to-word m e) in
+      let at = subst (λ (K : Job). e < edgeCount K → edgeTo (K .structure) e ≡ word m TARGETS e) (d .is) (to-word m e) in
       let w = at l in
       let o = to-in J (d .is-job) e l in
       let b = d .is-job .states in
       (omega arith, omega arith, omega arith)
-
-  -- the chain that an edge is in, by what is read of the edge
-  pub chain-read :
-      (e : ℕ) → e < edgeCount J
-      → (s n u : ℕ) → s ≡ word m SOURCES e → n ≡ word m OWNERS s → u ≡ word m TARGETS e
-      → (byNode n u ≡ chainOf J e) × (byNode n u < 2048)
-  chain-read e l s n u x y z =
-      let a = source-read e l s x in
-      let b = owner-read s (a .1) n y in
-      let c = target-read e l u z in
-      let o : n ≡ owner J (from (J .structure) e) = b .0 ∙ ap (owner J) (a .0) in
-      (omega arith, omega arith)
 
 -- What is read of a whole image.
 module _ (m : List ℕ) (is : IsImage m) where
@@ -165,10 +152,10 @@ module _ (m : List ℕ) (is : IsImage m) where
 
   pub next-read :
       (e : ℕ) → e < edgeCount (J m) → (r : ℕ) → r ≡ word m NEXT e
-      → (r ≡ lastInto (J m) (owner (J m) (from (J m .structure) e)) (to (J m .structure) e) e) × (r ≤ e)
+      → (r ≡ lastInto (J m) (owner (J m) (edgeFrom (J m .structure) e)) (edgeTo (J m .structure) e) e) × (r ≤ e)
   next-read e l r q =
       let w = is .next-at e l in
-      let f = last-few (J m) (owner (J m) (from (J m .structure) e)) (to (J m .structure) e) e in
+      let f = last-few (J m) (owner (J m) (edgeFrom (J m .structure) e)) (edgeTo (J m .structure) e) e in
       (omega arith, omega arith)
 
   pub fragment-size-read :

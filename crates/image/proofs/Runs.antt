@@ -17,7 +17,7 @@ use Rattle.law.proofs.Count.{count-le}
 use Rattle.law.proofs.Lists.{every-intro, every-elim, some-intro, some-elim}
 use Rattle.job.specs.Job.{Job, Structure, forAll, exists, over, size}
 use Rattle.job.specs.Written.{IsJob, Less, edgeOf, edgeCount, noEdge}
-use Rattle.image.specs.Image.{from, to, firstEdge}
+use Rattle.image.specs.Image.{edgeFrom, edgeTo, firstEdge}
 
 -- a test that the first r numbers pass, and no other below n
 pub count-run :
@@ -69,46 +69,46 @@ module _ (J : Job) (job : IsJob J) where
   M = J .structure
 
   -- the ends of an edge are states
-  pub from-in : (e : ℕ) → e < edgeCount J → from M e < size J
-  unfolding edgeOf from
+  pub from-in : (e : ℕ) → e < edgeCount J → edgeFrom M e < size J
+  unfolding edgeOf edgeFrom
   from-in e l = job .ends e l .0
 
-  pub to-in : (e : ℕ) → e < edgeCount J → to M e < size J
-  unfolding edgeOf to
+  pub to-in : (e : ℕ) → e < edgeCount J → edgeTo M e < size J
+  unfolding edgeOf edgeTo
   to-in e l = job .ends e l .1
 
-  step-up : (e : ℕ) → suc e < edgeCount J → from M e ≤ from M (suc e)
-  unfolding Less edgeOf edgeCount from
+  step-up : (e : ℕ) → suc e < edgeCount J → edgeFrom M e ≤ edgeFrom M (suc e)
+  unfolding Less edgeOf edgeCount edgeFrom
   step-up e l = ⊎-elim (λ g. omega arith) (λ g. omega arith) (job .ascending e l)
 
-  pub sources-up : (d e : ℕ) → d ≤ e → e < edgeCount J → from M d ≤ from M e
-  sources-up d zero l g = let z : d ≡ 0 = omega arith in rw z (le-refl (from M 0))
+  pub sources-up : (d e : ℕ) → d ≤ e → e < edgeCount J → edgeFrom M d ≤ edgeFrom M e
+  sources-up d zero l g = let z : d ≡ 0 = omega arith in rw z (le-refl (edgeFrom M 0))
   sources-up d (suc e) l g =
       below-suc d (suc e) (omega arith)
       (λ m. omega (arith, sources-up d e (omega arith) (omega arith), step-up e g))
-      (λ q. rw q (le-refl (from M (suc e))))
+      (λ q. rw q (le-refl (edgeFrom M (suc e))))
 
-  falls : (s : ℕ) → Falls (λ e. ltb (from M e) s) (edgeCount J)
-  falls s d e l g t = lt-ltb (from M d) s (omega (arith, sources-up d e l g, ltb-true (from M e) s t))
+  falls : (s : ℕ) → Falls (λ e. ltb (edgeFrom M e) s) (edgeCount J)
+  falls s d e l g t = lt-ltb (edgeFrom M d) s (omega (arith, sources-up d e l g, ltb-true (edgeFrom M e) s t))
 
-  pub below-first : (s e : ℕ) → e < firstEdge M s → from M e < s
+  pub below-first : (s e : ℕ) → e < firstEdge M s → edgeFrom M e < s
   unfolding firstEdge edgeCount
-  below-first s e l = ltb-true (from M e) s (first-pass (λ d. ltb (from M d) s) (edgeCount J) (falls s) e l)
+  below-first s e l = ltb-true (edgeFrom M e) s (first-pass (λ d. ltb (edgeFrom M d) s) (edgeCount J) (falls s) e l)
 
-  pub from-first : (s e : ℕ) → e < edgeCount J → firstEdge M s ≤ e → s ≤ from M e
+  pub from-first : (s e : ℕ) → e < edgeCount J → firstEdge M s ≤ e → s ≤ edgeFrom M e
   unfolding firstEdge edgeCount
-  from-first s e l g = ltb-false (from M e) s (then-fail (λ d. ltb (from M d) s) (edgeCount J) (falls s) e l g)
+  from-first s e l g = ltb-false (edgeFrom M e) s (then-fail (λ d. ltb (edgeFrom M d) s) (edgeCount J) (falls s) e l g)
 
   pub first-few : (s : ℕ) → firstEdge M s ≤ edgeCount J
   unfolding firstEdge edgeCount
-  first-few s = count-le (λ e. ltb (from M e) s) (length (M .edges))
+  first-few s = count-le (λ e. ltb (edgeFrom M e) s) (length (M .edges))
 
   -- a search for the run of s, in which no edge passed starts at s or above
-  pub run-here : (s e : ℕ) → e ≤ firstEdge M s → s ≤ from M e → e ≡ firstEdge M s
+  pub run-here : (s e : ℕ) → e ≤ firstEdge M s → s ≤ edgeFrom M e → e ≡ firstEdge M s
   run-here s e l g =
       by-order e (firstEdge M s) (λ h. let stop : ⊥ = omega (arith, below-first s e h) in absurd stop) (λ h. omega arith)
 
-  pub run-later : (s e : ℕ) → e < edgeCount J → from M e < s → e + 1 ≤ firstEdge M s
+  pub run-later : (s e : ℕ) → e < edgeCount J → edgeFrom M e < s → e + 1 ≤ firstEdge M s
   run-later s e l g =
       by-order e (firstEdge M s) (λ h. omega arith) (λ h. let stop : ⊥ = omega (arith, from-first s e l h) in absurd stop)
 
@@ -125,13 +125,13 @@ module _ (J : Job) (job : IsJob J) where
   run-on s e is = rw (add-one s) (omega (arith, first-up s))
 
   -- the edges of a run start at its state, and all that do are in it
-  pub run-source : (s e : ℕ) → firstEdge M s ≤ e → e < firstEdge M (suc s) → (e < edgeCount J) × (from M e ≡ s)
+  pub run-source : (s e : ℕ) → firstEdge M s ≤ e → e < firstEdge M (suc s) → (e < edgeCount J) × (edgeFrom M e ≡ s)
   run-source s e l g =
       let few = first-few (suc s) in
       let inside : e < edgeCount J = omega arith in
       (inside, omega (arith, below-first (suc s) e g, from-first s e inside l))
 
-  pub source-run : (s e : ℕ) → e < edgeCount J → from M e ≡ s → (firstEdge M s ≤ e) × (e < firstEdge M (suc s))
+  pub source-run : (s e : ℕ) → e < edgeCount J → edgeFrom M e ≡ s → (firstEdge M s ≤ e) × (e < firstEdge M (suc s))
   source-run s e l is = (
     by-order e (firstEdge M s) (λ g. let stop : ⊥ = omega (arith, below-first s e g) in absurd stop) (λ g. g),
     by-order e (firstEdge M (suc s)) (λ g. g) (λ g. let stop : ⊥ = omega (arith, from-first (suc s) e l g) in absurd stop),
@@ -139,49 +139,49 @@ module _ (J : Job) (job : IsJob J) where
 
   pub all-run :
       (s : ℕ) (X : ℕ → Bool)
-      → over M forAll s X ≡ all (λ d. X (to M (firstEdge M s + d))) (firstEdge M (suc s) - firstEdge M s)
-  unfolding over from to edgeCount
+      → over M forAll s X ≡ all (λ d. X (edgeTo M (firstEdge M s + d))) (firstEdge M (suc s) - firstEdge M s)
+  unfolding over edgeFrom edgeTo edgeCount
   all-run s X =
       let a = firstEdge M s in
       let b = firstEdge M (suc s) in
-      same-test (over M forAll s X) (all (λ d. X (to M (a + d))) (b - a))
+      same-test (over M forAll s X) (all (λ d. X (edgeTo M (a + d))) (b - a))
       (λ h.
-      all-intro (λ d. X (to M (a + d))) (b - a)
+      all-intro (λ d. X (edgeTo M (a + d))) (b - a)
       (λ d l.
       let (inside, is) = run-source s (a + d) (omega arith) (omega arith) in
       ⊎-elim
-      (λ n. clash (eqb (from M (a + d)) s) (eq-eqb (from M (a + d)) s is) (not-true (eqb (from M (a + d)) s) n))
+      (λ n. clash (eqb (edgeFrom M (a + d)) s) (eq-eqb (edgeFrom M (a + d)) s is) (not-true (eqb (edgeFrom M (a + d)) s) n))
       (λ x. x)
-      (or-cases (not (eqb (from M (a + d)) s)) (X (to M (a + d)))
+      (or-cases (not (eqb (edgeFrom M (a + d)) s)) (X (edgeTo M (a + d)))
       (every-elim (λ e. not (eqb (e .from) s) || X (e .to)) (M .edges) noEdge h (a + d) inside))))
       (λ h.
       every-intro (λ e. not (eqb (e .from) s) || X (e .to)) (M .edges) noEdge
       (λ e l.
-      split (eqb (from M e) s)
+      split (eqb (edgeFrom M e) s)
       (λ t.
-      let (up, down) = source-run s e l (eqb-true (from M e) s t) in
+      let (up, down) = source-run s e l (eqb-true (edgeFrom M e) s t) in
       let here : a + (e - a) ≡ e = omega arith in
-      or-right (not (eqb (from M e) s)) (X (to M e))
-      (sym (ap (λ i. X (to M i)) here) ∙ all-elim (λ d. X (to M (a + d))) (b - a) h (e - a) (omega arith)))
-      (λ f. or-left (not (eqb (from M e) s)) (X (to M e)) (not-is-true (eqb (from M e) s) f))))
+      or-right (not (eqb (edgeFrom M e) s)) (X (edgeTo M e))
+      (sym (ap (λ i. X (edgeTo M i)) here) ∙ all-elim (λ d. X (edgeTo M (a + d))) (b - a) h (e - a) (omega arith)))
+      (λ f. or-left (not (eqb (edgeFrom M e) s)) (X (edgeTo M e)) (not-is-true (eqb (edgeFrom M e) s) f))))
 
   pub some-run :
       (s : ℕ) (X : ℕ → Bool)
-      → over M exists s X ≡ any (λ d. X (to M (firstEdge M s + d))) (firstEdge M (suc s) - firstEdge M s)
-  unfolding over from to edgeCount
+      → over M exists s X ≡ any (λ d. X (edgeTo M (firstEdge M s + d))) (firstEdge M (suc s) - firstEdge M s)
+  unfolding over edgeFrom edgeTo edgeCount
   some-run s X =
       let a = firstEdge M s in
       let b = firstEdge M (suc s) in
-      same-test (over M exists s X) (any (λ d. X (to M (a + d))) (b - a))
+      same-test (over M exists s X) (any (λ d. X (edgeTo M (a + d))) (b - a))
       (λ h.
       let (e, l, t) = some-elim (λ g. eqb (g .from) s && X (g .to)) (M .edges) noEdge h in
-      let (up, down) = source-run s e l (eqb-true (from M e) s (and-left (eqb (from M e) s) (X (to M e)) t)) in
+      let (up, down) = source-run s e l (eqb-true (edgeFrom M e) s (and-left (eqb (edgeFrom M e) s) (X (edgeTo M e)) t)) in
       let here : a + (e - a) ≡ e = omega arith in
-      any-intro (λ d. X (to M (a + d))) (b - a) (e - a) (omega arith)
-      (ap (λ i. X (to M i)) here ∙ and-right (eqb (from M e) s) (X (to M e)) t))
+      any-intro (λ d. X (edgeTo M (a + d))) (b - a) (e - a) (omega arith)
+      (ap (λ i. X (edgeTo M i)) here ∙ and-right (eqb (edgeFrom M e) s) (X (edgeTo M e)) t))
       (λ h.
-      let (l, t) = any-found (λ d. X (to M (a + d))) (b - a) h in
-      let d = first (λ i. X (to M (a + i))) (b - a) in
+      let (l, t) = any-found (λ d. X (edgeTo M (a + d))) (b - a) h in
+      let d = first (λ i. X (edgeTo M (a + i))) (b - a) in
       let (inside, is) = run-source s (a + d) (omega arith) (omega arith) in
       some-intro (λ g. eqb (g .from) s && X (g .to)) (M .edges) noEdge (a + d) inside
-      (and-intro (eqb (from M (a + d)) s) (X (to M (a + d))) (eq-eqb (from M (a + d)) s is) t))
+      (and-intro (eqb (edgeFrom M (a + d)) s) (X (edgeTo M (a + d))) (eq-eqb (edgeFrom M (a + d)) s is) t))

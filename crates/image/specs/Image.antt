@@ -78,20 +78,26 @@ jobOf m =
       owners = tab (word m OWNERS) (getD m 0 0);
     }
 
--- The edge of that number.
-unfoldable pub from : Structure → ℕ → ℕ
-from M e = getD (M .edges) e noEdge .from
+-- The first regions denote the job J, whatever stands behind them.
+pub record Denotes (J : Job) (m : List ℕ) : Type 0 where
+  pub long : length m ≡ WORDS
+  pub is : jobOf m ≡ J
+  pub is-job : IsJob J
 
-unfoldable pub to : Structure → ℕ → ℕ
-to M e = getD (M .edges) e noEdge .to
+-- The edge of that number.
+unfoldable pub edgeFrom : Structure → ℕ → ℕ
+edgeFrom M e = getD (M .edges) e noEdge .from
+
+unfoldable pub edgeTo : Structure → ℕ → ℕ
+edgeTo M e = getD (M .edges) e noEdge .to
 
 -- How many edges start below state s: where the run of s begins, since edges ascend.
 unfoldable pub firstEdge : Structure → ℕ → ℕ
-firstEdge M s = count (λ e. ltb (from M e) s) (length (M .edges))
+firstEdge M s = count (λ e. ltb (edgeFrom M e) s) (length (M .edges))
 
 -- Edge e belongs to node n, its source's owner, and ends at state u.
 unfoldable pub leads : Job → ℕ → ℕ → ℕ → Bool
-leads J n u e = eqb (owner J (from (J .structure) e)) n && eqb (to (J .structure) e) u
+leads J n u e = eqb (owner J (edgeFrom (J .structure) e)) n && eqb (edgeTo (J .structure) e) u
 
 -- One more than the last edge of node n below number e into state u, and 0 where there is none.
 unfoldable pub lastInto : Job → ℕ → ℕ → ℕ → ℕ
@@ -124,7 +130,7 @@ pub record IsImage (m : List ℕ) : Type 0 where
       (e : ℕ)
       → e < edgeCount (jobOf m)
       → word m NEXT e
-      ≡ lastInto (jobOf m) (owner (jobOf m) (from (jobOf m .structure) e)) (to (jobOf m .structure) e) e
+      ≡ lastInto (jobOf m) (owner (jobOf m) (edgeFrom (jobOf m .structure) e)) (edgeTo (jobOf m .structure) e) e
   pub place-at : (n s : ℕ) → n < 8 → s < size (jobOf m) → word m PLACES (byNode n s) ≡ placeOf (jobOf m) n s
   -- by node: the states of its fragment
   pub size-at : (n : ℕ) → n < 8 → word m SIZES n ≡ fragmentSize (jobOf m) n

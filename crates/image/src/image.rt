@@ -1,9 +1,10 @@
 // What an image says of its job: each accessor is one load.
 ghost use mathlib.Core.Path.{_≡_};
 ghost use Prim.Native.Nat.{_+_, _<_, _≤_};
+ghost use lib.ListN.{length, getD};
 ghost use Rattle.job.specs.Job.{size, subformulaCount, owner as ownerOf, subformula as subformulaOf};
 ghost use Rattle.job.specs.Written.{edgeCount, label as labelOf, Operands};
-ghost use Rattle.image.specs.Image.{IsImage, jobOf, from, to, firstEdge, lastInto, placeOf, fragmentSize, fragmentState};
+ghost use Rattle.image.specs.Image.{IsImage, WORDS, jobOf, edgeFrom, edgeTo, firstEdge, lastInto, placeOf, fragmentSize, fragmentState};
 use job::subformula::Parsed;
 use job::subformula::Subformula;
 use job::subformula::parse;
@@ -37,32 +38,40 @@ pub const SIZES: usize = 11109;
 
 pub const MEMBERS: usize = 11117;
 
-// A word, as an index.
-pub fn wide(x: u16) -> usize
+// The range of a word is that of its type.
+fn wide(x: u16) -> usize
     ensures { λ r. ⌜ (r ≡ x) × (r < 65536) ⌝ }
 {
     x as usize
+}
+
+// A word, as an index.
+pub fn word(m: &Image, i: usize) -> usize
+    requires { ⌜ (length (now m) ≡ WORDS) × (i < WORDS) ⌝ }
+    ensures { λ r. ⌜ (r ≡ getD (now (m .entry)) i 0) × (r < 65536) ⌝ }
+{
+    wide(m[i])
 }
 
 pub fn states(m: &Image) -> usize
     requires { ⌜ IsImage (now m) ⌝ }
     ensures { λ r. ⌜ (r ≡ size (jobOf (now (m .entry)))) × (1 ≤ r) × (r ≤ 256) ⌝ }
 {
-    wide(m[0])
+    word(m, 0)
 }
 
 pub fn subformulas(m: &Image) -> usize
     requires { ⌜ IsImage (now m) ⌝ }
     ensures { λ r. ⌜ (r ≡ subformulaCount (jobOf (now (m .entry)))) × (1 ≤ r) × (r ≤ 32) ⌝ }
 {
-    wide(m[2])
+    word(m, 2)
 }
 
 pub fn nodes(m: &Image) -> usize
     requires { ⌜ IsImage (now m) ⌝ }
     ensures { λ r. ⌜ (r ≡ jobOf (now (m .entry)) .nodes) × (1 ≤ r) × (r ≤ 8) ⌝ }
 {
-    wide(m[3])
+    word(m, 3)
 }
 
 pub fn owner(m: &Image, s: usize) -> usize
@@ -70,7 +79,7 @@ pub fn owner(m: &Image, s: usize) -> usize
     requires { ⌜ s < size (jobOf (now m)) ⌝ }
     ensures { λ r. ⌜ (r ≡ ownerOf (jobOf (now (m .entry))) s) × (r < jobOf (now (m .entry)) .nodes) × (r < 8) ⌝ }
 {
-    wide(m[OWNERS + s])
+    word(m, OWNERS + s)
 }
 
 pub fn label(m: &Image, s: usize) -> u16
@@ -84,17 +93,17 @@ pub fn label(m: &Image, s: usize) -> u16
 pub fn source(m: &Image, e: usize) -> usize
     requires { ⌜ IsImage (now m) ⌝ }
     requires { ⌜ e < edgeCount (jobOf (now m)) ⌝ }
-    ensures { λ r. ⌜ (r ≡ from (jobOf (now (m .entry)) .structure) e) × (r < size (jobOf (now (m .entry)))) × (r < 256) ⌝ }
+    ensures { λ r. ⌜ (r ≡ edgeFrom (jobOf (now (m .entry)) .structure) e) × (r < size (jobOf (now (m .entry)))) × (r < 256) ⌝ }
 {
-    wide(m[SOURCES + e])
+    word(m, SOURCES + e)
 }
 
 pub fn target(m: &Image, e: usize) -> usize
     requires { ⌜ IsImage (now m) ⌝ }
     requires { ⌜ e < edgeCount (jobOf (now m)) ⌝ }
-    ensures { λ r. ⌜ (r ≡ to (jobOf (now (m .entry)) .structure) e) × (r < size (jobOf (now (m .entry)))) × (r < 256) ⌝ }
+    ensures { λ r. ⌜ (r ≡ edgeTo (jobOf (now (m .entry)) .structure) e) × (r < size (jobOf (now (m .entry)))) × (r < 256) ⌝ }
 {
-    wide(m[TARGETS + e])
+    word(m, TARGETS + e)
 }
 
 // The first edge out of state s; for the number of states, the end of the last state's edges.
@@ -103,7 +112,7 @@ pub fn first_edge(m: &Image, s: usize) -> usize
     requires { ⌜ s ≤ size (jobOf (now m)) ⌝ }
     ensures { λ r. ⌜ (r ≡ firstEdge (jobOf (now (m .entry)) .structure) s) × (r ≤ edgeCount (jobOf (now (m .entry)))) × (r ≤ 2048) ⌝ }
 {
-    wide(m[FIRST + s])
+    word(m, FIRST + s)
 }
 
 // The last of node n's edges into state s, plus 1, or 0.
@@ -112,7 +121,7 @@ pub fn last_into(m: &Image, n: usize, s: usize) -> usize
     requires { ⌜ (n < jobOf (now m) .nodes) × (s < size (jobOf (now m))) ⌝ }
     ensures { λ r. ⌜ (r ≡ lastInto (jobOf (now (m .entry))) n s (edgeCount (jobOf (now (m .entry))))) × (r ≤ edgeCount (jobOf (now (m .entry)))) ⌝ }
 {
-    wide(m[LAST + (n * 256 + s)])
+    word(m, LAST + (n * 256 + s))
 }
 
 // The edge before e of the same node into the same state, plus 1, or 0.
@@ -120,11 +129,11 @@ pub fn next_into(m: &Image, e: usize) -> usize
     requires { ⌜ IsImage (now m) ⌝ }
     requires { ⌜ e < edgeCount (jobOf (now m)) ⌝ }
     ensures { λ r. ⌜
-        (r ≡ lastInto (jobOf (now (m .entry))) (ownerOf (jobOf (now (m .entry))) (from (jobOf (now (m .entry)) .structure) e))
-        (to (jobOf (now (m .entry)) .structure) e) e) × (r ≤ e)
+        (r ≡ lastInto (jobOf (now (m .entry))) (ownerOf (jobOf (now (m .entry))) (edgeFrom (jobOf (now (m .entry)) .structure) e))
+        (edgeTo (jobOf (now (m .entry)) .structure) e) e) × (r ≤ e)
         ⌝ }
 {
-    wide(m[NEXT + e])
+    word(m, NEXT + e)
 }
 
 // A state's place in a node's fragment: 2 for a state that is not border, 1 for a border state, 0 outside.
@@ -142,7 +151,7 @@ pub fn fragment_size(m: &Image, n: usize) -> usize
     requires { ⌜ n < jobOf (now m) .nodes ⌝ }
     ensures { λ r. ⌜ (r ≡ fragmentSize (jobOf (now (m .entry))) n) × (r ≤ 256) ⌝ }
 {
-    wide(m[SIZES + n])
+    word(m, SIZES + n)
 }
 
 pub fn fragment_state(m: &Image, n: usize, i: usize) -> usize
@@ -150,7 +159,7 @@ pub fn fragment_state(m: &Image, n: usize, i: usize) -> usize
     requires { ⌜ (n < jobOf (now m) .nodes) × (i < fragmentSize (jobOf (now m)) n) ⌝ }
     ensures { λ r. ⌜ (r ≡ fragmentState (jobOf (now (m .entry))) n i) × (r < size (jobOf (now (m .entry)))) × (r < 256) ⌝ }
 {
-    wide(m[MEMBERS + (n * 256 + i)])
+    word(m, MEMBERS + (n * 256 + i))
 }
 
 // The k-th subformula. No line of a job is malformed.
@@ -161,9 +170,9 @@ pub fn subformula(m: &Image, k: usize) -> Subformula
 {
     let line = parse(
         k,
-        wide(m[KINDS + k]),
-        wide(m[LEFTS + k]),
-        wide(m[RIGHTS + k]),
+        word(m, KINDS + k),
+        word(m, LEFTS + k),
+        word(m, RIGHTS + k),
     );
     match line {
         Parsed::Formula(f) => f,

@@ -29,16 +29,16 @@ pub record Agrees (t : Text) (J : Job) : Type 0 where
   pub subformulas : layout.subformulas t ≡ subformulaCount J
   pub nodes : layout.nodes t ≡ J .nodes
   pub owned : length (J .owners) ≡ size J
-  pub owners : (s : ℕ) → s < size J → layout.owner t s ≡ owner J s
-  pub labels : (s : ℕ) → s < size J → layout.label t s ≡ label J s
+  pub owners : (s : ℕ) → s < size J → layout.ownerField t s ≡ owner J s
+  pub labels : (s : ℕ) → s < size J → layout.labelField t s ≡ label J s
   pub pairs : (e : ℕ) → e < edgeCount J → pair t e ≡ edgeOf J e
-  pub formulas : (k : ℕ) → k < subformulaCount J → Stands k (layout.kind t k) (layout.left t k) (layout.right t k) (subformula (J .formula) k)
+  pub formulas : (k : ℕ) → k < subformulaCount J → Stands k (layout.kindField t k) (layout.leftField t k) (layout.rightField t k) (subformula (J .formula) k)
 
 -- A text that has passed the questions agrees with the job that it is decoded as.
 module _ (t : Text) where
   decode-size : size (decode t) ≡ layout.states t
   unfolding size decode
-  decode-size = tab-length (layout.label t) (layout.states t)
+  decode-size = tab-length (layout.labelField t) (layout.states t)
 
   decode-subformulas : subformulaCount (decode t) ≡ layout.subformulas t
   unfolding subformulaCount decode
@@ -56,15 +56,15 @@ module _ (t : Text) where
         edges = sym decode-edges;
         subformulas = sym decode-subformulas;
         nodes = refl;
-        owned = tab-length (layout.owner t) (layout.states t) ∙ sym decode-size;
-        owners = λ s l. sym (tab-at (layout.owner t) (layout.states t) s 0 (omega (arith, decode-size)));
-        labels = λ s l. sym (tab-at (layout.label t) (layout.states t) s 0 (omega (arith, decode-size)));
+        owned = tab-length (layout.ownerField t) (layout.states t) ∙ sym decode-size;
+        owners = λ s l. sym (tab-at (layout.ownerField t) (layout.states t) s 0 (omega (arith, decode-size)));
+        labels = λ s l. sym (tab-at (layout.labelField t) (layout.states t) s 0 (omega (arith, decode-size)));
         pairs = λ e l. sym (tab-at (pair t) (layout.edges t) e noEdge (omega (arith, decode-edges)));
         formulas =
             λ k l.
             let inside : k < layout.subformulas t = omega (arith, decode-subformulas) in
-            rw (tab-at (λ j. parsing.formula (parsed j (layout.kind t j) (layout.left t j) (layout.right t j))) _ k (Atom 0) inside)
-            (parsed-stands k (layout.kind t k) (layout.left t k) (layout.right t k) _ (formula-is _ (p .formulas k inside)));
+            rw (tab-at (λ j. parsing.formula (parsed j (layout.kindField t j) (layout.leftField t j) (layout.rightField t j))) _ k (Atom 0) inside)
+            (parsed-stands k (layout.kindField t k) (layout.leftField t k) (layout.rightField t k) _ (formula-is _ (p .formulas k inside)));
       }
 
 -- What a text that agrees with a job says of the job.
@@ -75,25 +75,25 @@ module _ (t : Text) (J : Job) (a : Agrees t J) where
       λ i.
       record { structure = record { labels = labels i; edges = edges i }; formula = formula i; nodes = a .nodes i; owners = owners i }
     where
-      labels : tab (layout.label t) (layout.states t) ≡ J .structure .labels
-      labels = tab-list (layout.label t) (layout.states t) (J .structure .labels) 0 (a .states) (a .labels)
+      labels : tab (layout.labelField t) (layout.states t) ≡ J .structure .labels
+      labels = tab-list (layout.labelField t) (layout.states t) (J .structure .labels) 0 (a .states) (a .labels)
 
-      owners : tab (layout.owner t) (layout.states t) ≡ J .owners
-      owners = tab-list (layout.owner t) (layout.states t) (J .owners) 0 (omega arith) (λ s l. a .owners s (omega arith))
+      owners : tab (layout.ownerField t) (layout.states t) ≡ J .owners
+      owners = tab-list (layout.ownerField t) (layout.states t) (J .owners) 0 (omega arith) (λ s l. a .owners s (omega arith))
 
       edges : tab (pair t) (layout.edges t) ≡ J .structure .edges
       edges = tab-list (pair t) (layout.edges t) (J .structure .edges) noEdge (a .edges) (a .pairs)
 
-      formula : tab (λ k. parsing.formula (parsed k (layout.kind t k) (layout.left t k) (layout.right t k))) (layout.subformulas t) ≡ J .formula
+      formula : tab (λ k. parsing.formula (parsed k (layout.kindField t k) (layout.leftField t k) (layout.rightField t k))) (layout.subformulas t) ≡ J .formula
       formula =
           tab-list _ (layout.subformulas t) (J .formula) (Atom 0) (a .subformulas)
           (λ k l. ap parsing.formula (stands-parsed k _ _ _ _ (a .formulas k l)))
 
-  agrees-from : (e : ℕ) → e < edgeCount J → layout.source t e ≡ edgeOf J e .from
+  agrees-from : (e : ℕ) → e < edgeCount J → layout.sourceField t e ≡ edgeOf J e .from
   unfolding pair
   agrees-from e l = ap (λ (d : Edge). d .from) (a .pairs e l)
 
-  agrees-to : (e : ℕ) → e < edgeCount J → layout.target t e ≡ edgeOf J e .to
+  agrees-to : (e : ℕ) → e < edgeCount J → layout.targetField t e ≡ edgeOf J e .to
   unfolding pair
   agrees-to e l = ap (λ (d : Edge). d .to) (a .pairs e l)
 
@@ -183,16 +183,16 @@ module _ (t : Text) (J : Job) (c : Carries t J) where
   edges-same : layout.edges t ≡ edgeCount J
   edges-same = ap (λ (l : List ℕ). getD l 1 0) head-same
 
-  state-same : (s : ℕ) → s < size J → layout.owner t s ∷ layout.label t s ∷ [] ≡ stateLine J s
+  state-same : (s : ℕ) → s < size J → layout.ownerField t s ∷ layout.labelField t s ∷ [] ≡ stateLine J s
   unfolding stateAt
   state-same s l = sym (state-numbers t s) ∙ reads-numbers t (stateLine J s) (21 + 11 * s) (c .states s l)
 
-  edge-same : (e : ℕ) → e < edgeCount J → layout.source t e ∷ layout.target t e ∷ [] ≡ edgeLine J e
+  edge-same : (e : ℕ) → e < edgeCount J → layout.sourceField t e ∷ layout.targetField t e ∷ [] ≡ edgeLine J e
   edge-same e l =
       sym (edge-numbers t e)
       ∙ rw (edge-place t (size J) e states-same) (reads-numbers t (edgeLine J e) (edgesFrom J + 11 * e) (c .edges e l))
 
-  formula-same : (k : ℕ) → k < subformulaCount J → layout.kind t k ∷ layout.left t k ∷ layout.right t k ∷ [] ≡ formulaLine J k
+  formula-same : (k : ℕ) → k < subformulaCount J → layout.kindField t k ∷ layout.leftField t k ∷ layout.rightField t k ∷ [] ≡ formulaLine J k
   formula-same k l =
       sym (formula-numbers t k)
       ∙ rw (formula-place t (size J) (edgeCount J) k states-same edges-same)

@@ -15,7 +15,7 @@ use Rattle.law.proofs.Bounded.{all-intro, all-elim, any-intro, any-found}
 use Rattle.law.specs.Lists.{every}
 use Rattle.law.proofs.Lists.{every-elim}
 use Rattle.text.specs.Field.{Text, formed}
-use Rattle.job.specs.Layout.{states, edges, subformulas, nodes, lengthOf, owner, label, source, target}
+use Rattle.job.specs.Layout.{states, edges, subformulas, nodes, lengthOf, ownerField, labelField, sourceField, targetField}
 use Rattle.job.specs.Question.{allYes}
 use Rattle.job.specs.Questions.{ofLineOne, ofLines, firstLine, ranges, textLength, lineFields, stateLines, edgeLines, edgesOut, formulaLines, headQuestions, lineQuestions, textQuestions, Accepted, within, inRanges, formedLine, stateOk, less, ascends, edgeOk, hasEdgeOut, formulaOk}
 use Rattle.job.specs.Job.{Edge}
@@ -24,7 +24,7 @@ use Rattle.job.proofs.QuestionLaws.{none-refused, all-answered-yes}
 
 -- the pair on edge line e
 unfoldable pub pair : Text → ℕ → Edge
-pair t e = record { from = source t e; to = target t e }
+pair t e = record { from = sourceField t e; to = targetField t e }
 
 pub record Passed (t : Text) : Type 0 where
   pub long : 21 ≤ length t
@@ -35,11 +35,11 @@ pub record Passed (t : Text) : Type 0 where
   pub inNodes : Between 1 8 (nodes t)
   pub sized : length t ≡ lengthOf t
   pub further : (i : ℕ) → i < states t + edges t + subformulas t → formedLine t i ≡ true
-  pub owners : (s : ℕ) → s < states t → owner t s < nodes t
-  pub labels : (s : ℕ) → s < states t → label t s ≤ 65535
-  pub ends : (e : ℕ) → e < edges t → (source t e < states t) × (target t e < states t)
+  pub owners : (s : ℕ) → s < states t → ownerField t s < nodes t
+  pub labels : (s : ℕ) → s < states t → labelField t s ≤ 65535
+  pub ends : (e : ℕ) → e < edges t → (sourceField t e < states t) × (targetField t e < states t)
   pub ascending : (e : ℕ) → suc e < edges t → Less (pair t e) (pair t (suc e))
-  pub edgeOut : (s : ℕ) → s < states t → (e : ℕ) × (e < edges t) × (source t e ≡ s)
+  pub edgeOut : (s : ℕ) → s < states t → (e : ℕ) × (e < edges t) × (sourceField t e ≡ s)
   pub formulas : (k : ℕ) → k < subformulas t → formulaOk t k ≡ true
 
 -- A test of a number's range.
@@ -75,57 +75,57 @@ test-less a b c d (inr r) = or-right (ltb a c) (eqb a c && ltb b d) (simp (eq-eq
 
 -- The tests of questions 5, 6 and 7, each as the facts that it tests.
 module _ (t : Text) where
-  pub state-owner : (s : ℕ) → stateOk t s ≡ true → owner t s < nodes t
+  pub state-owner : (s : ℕ) → stateOk t s ≡ true → ownerField t s < nodes t
   unfolding stateOk
-  state-owner s e = ltb-true (owner t s) (nodes t) (and-left (ltb (owner t s) (nodes t)) (leb (label t s) 65535) e)
+  state-owner s e = ltb-true (ownerField t s) (nodes t) (and-left (ltb (ownerField t s) (nodes t)) (leb (labelField t s) 65535) e)
 
-  pub state-label : (s : ℕ) → stateOk t s ≡ true → label t s ≤ 65535
+  pub state-label : (s : ℕ) → stateOk t s ≡ true → labelField t s ≤ 65535
   unfolding stateOk
-  state-label s e = leb-true (label t s) 65535 (and-right (ltb (owner t s) (nodes t)) (leb (label t s) 65535) e)
+  state-label s e = leb-true (labelField t s) 65535 (and-right (ltb (ownerField t s) (nodes t)) (leb (labelField t s) 65535) e)
 
-  pub state-ok : (s : ℕ) → owner t s < nodes t → label t s ≤ 65535 → stateOk t s ≡ true
+  pub state-ok : (s : ℕ) → ownerField t s < nodes t → labelField t s ≤ 65535 → stateOk t s ≡ true
   unfolding stateOk
   state-ok s o l =
-      simp (lt-ltb (owner t s) (nodes t) o, le-leb (label t s) 65535 l)
+      simp (lt-ltb (ownerField t s) (nodes t) o, le-leb (labelField t s) 65535 l)
 
   -- a pair is greater than the one before
   pub ascends-less : (e : ℕ) → ascends t (suc e) ≡ true → Less (pair t e) (pair t (suc e))
   unfolding ascends less Less pair
-  ascends-less e h = less-test (source t e) (target t e) (source t (suc e)) (target t (suc e)) (simp sub-one at h)
+  ascends-less e h = less-test (sourceField t e) (targetField t e) (sourceField t (suc e)) (targetField t (suc e)) (simp sub-one at h)
 
   pub less-ascends : (e : ℕ) → Less (pair t e) (pair t (suc e)) → ascends t (suc e) ≡ true
   unfolding ascends less Less pair
-  less-ascends e l = simp sub-one (test-less (source t e) (target t e) (source t (suc e)) (target t (suc e)) l)
+  less-ascends e l = simp sub-one (test-less (sourceField t e) (targetField t e) (sourceField t (suc e)) (targetField t (suc e)) l)
 
-  pub edge-ends : (e : ℕ) → edgeOk t e ≡ true → (source t e < states t) × (target t e < states t)
+  pub edge-ends : (e : ℕ) → edgeOk t e ≡ true → (sourceField t e < states t) × (targetField t e < states t)
   unfolding edgeOk
   edge-ends e h =
-      let both = and-left (ltb (source t e) (states t) && ltb (target t e) (states t)) (eqb e 0 || ascends t e) h in (
-        ltb-true (source t e) (states t) (and-left (ltb (source t e) (states t)) (ltb (target t e) (states t)) both),
-        ltb-true (target t e) (states t) (and-right (ltb (source t e) (states t)) (ltb (target t e) (states t)) both),
+      let both = and-left (ltb (sourceField t e) (states t) && ltb (targetField t e) (states t)) (eqb e 0 || ascends t e) h in (
+        ltb-true (sourceField t e) (states t) (and-left (ltb (sourceField t e) (states t)) (ltb (targetField t e) (states t)) both),
+        ltb-true (targetField t e) (states t) (and-right (ltb (sourceField t e) (states t)) (ltb (targetField t e) (states t)) both),
       )
 
   pub edge-less : (e : ℕ) → edgeOk t (suc e) ≡ true → Less (pair t e) (pair t (suc e))
   unfolding edgeOk
   edge-less e h =
-      let both = ltb (source t (suc e)) (states t) && ltb (target t (suc e)) (states t) in
+      let both = ltb (sourceField t (suc e)) (states t) && ltb (targetField t (suc e)) (states t) in
       ascends-less e (rw (eqb·suc-zero e) at (and-right both (eqb (suc e) 0 || ascends t (suc e)) h))
 
-  pub edge-ok : (e : ℕ) → source t e < states t → target t e < states t → (eqb e 0 || ascends t e) ≡ true → edgeOk t e ≡ true
+  pub edge-ok : (e : ℕ) → sourceField t e < states t → targetField t e < states t → (eqb e 0 || ascends t e) ≡ true → edgeOk t e ≡ true
   unfolding edgeOk
   edge-ok e a b c =
-      simp (lt-ltb (source t e) (states t) a, lt-ltb (target t e) (states t) b, c)
+      simp (lt-ltb (sourceField t e) (states t) a, lt-ltb (targetField t e) (states t) b, c)
 
-  pub edge-out : (s : ℕ) → hasEdgeOut t s ≡ true → (e : ℕ) × (e < edges t) × (source t e ≡ s)
+  pub edge-out : (s : ℕ) → hasEdgeOut t s ≡ true → (e : ℕ) × (e < edges t) × (sourceField t e ≡ s)
   unfolding hasEdgeOut
   edge-out s h =
-      let (l, e) = any-found (λ e. eqb (source t e) s) (edges t) h in
-      let found = first (λ e. eqb (source t e) s) (edges t) in
-      (found, l, eqb-true (source t found) s e)
+      let (l, e) = any-found (λ e. eqb (sourceField t e) s) (edges t) h in
+      let found = first (λ e. eqb (sourceField t e) s) (edges t) in
+      (found, l, eqb-true (sourceField t found) s e)
 
-  pub out-edge : (s e : ℕ) → e < edges t → source t e ≡ s → hasEdgeOut t s ≡ true
+  pub out-edge : (s e : ℕ) → e < edges t → sourceField t e ≡ s → hasEdgeOut t s ≡ true
   unfolding hasEdgeOut
-  out-edge s e l q = any-intro (λ d. eqb (source t d) s) (edges t) e l (eq-eqb (source t e) s q)
+  out-edge s e l q = any-intro (λ d. eqb (sourceField t d) s) (edges t) e l (eq-eqb (sourceField t e) s q)
 
 -- All eight together, taken out and put back.
 pub accepted-passed : (t : Text) → Accepted t → Passed t

@@ -12,7 +12,7 @@ use Rattle.job.specs.Job.{Job, size, subformulaCount, owner, subformula}
 use Rattle.text.specs.Decimal.{line, Short}
 use Rattle.job.specs.Written.{label, edgeOf, edgeCount, written, IsJob}
 use Rattle.job.proofs.Formula.{fields-length, fields-short}
-use Rattle.text.proofs.Line.{Reads, run, reads-line, line-reads, line-length, reads-run, run-reads, run-length}
+use Rattle.text.proofs.Line.{HasNumbers, run, reads-line, line-reads, line-length, reads-run, run-reads, run-length}
 
 -- the numbers of each line of a job
 abbrev pub headLine : Job → List ℕ
@@ -36,10 +36,10 @@ formulasFrom J = 21 + 11 * size J + 11 * edgeCount J
 
 pub record Carries (t : Text) (J : Job) : Type 0 where
   pub sized : length t ≡ formulasFrom J + 16 * subformulaCount J
-  pub head : Reads t 0 (headLine J)
-  pub states : (s : ℕ) → s < size J → Reads t (21 + 11 * s) (stateLine J s)
-  pub edges : (e : ℕ) → e < edgeCount J → Reads t (edgesFrom J + 11 * e) (edgeLine J e)
-  pub formulas : (k : ℕ) → k < subformulaCount J → Reads t (formulasFrom J + 16 * k) (formulaLine J k)
+  pub head : HasNumbers t 0 (headLine J)
+  pub states : (s : ℕ) → s < size J → HasNumbers t (21 + 11 * s) (stateLine J s)
+  pub edges : (e : ℕ) → e < edgeCount J → HasNumbers t (edgesFrom J + 11 * e) (edgeLine J e)
+  pub formulas : (k : ℕ) → k < subformulaCount J → HasNumbers t (formulasFrom J + 16 * k) (formulaLine J k)
 
 -- what stands from a on, put together of what stands there and behind it
 part : (t x y : Text) (a n : ℕ) → take n (drop a t) ≡ x → drop (a + n) t ≡ y → drop a t ≡ x ++ y

@@ -20,8 +20,8 @@ use Rattle.job.specs.Questions.{ofLineOne, firstLine, ranges, textLength
 use Rattle.job.specs.Answer.{accepted, refused}
 use Rattle.job.specs.Read.{header, headAnswer, readTold, hasLine, lineStart, lineLength}
 use Rattle.job.specs.Leaves.{Fits}
-use Rattle.job.specs.declared.reader.Header.{Header}
-use Rattle.job.specs.declared.reader.Reading.the-variants.{Accepted}
+use Rattle.job.specs.declared.reading.Header.{Header}
+use Rattle.job.specs.declared.reading.Reading.the-variants.{Accepted}
 
 -- The head's answer in each case.
 module _ (t : Text) where
@@ -53,9 +53,9 @@ module _ (t : Text) where
       unfolding textLength ofLineOne
       head-wrong-length n = ranges-yes ∙ answered-no (textLength t) [] 4 (header t) (ne-eqb (length t) (lengthOf t) n)
 
-      pub head-accepted : length t ≡ lengthOf t → headAnswer t ≡ accepted (header t)
+      pub head-passes : length t ≡ lengthOf t → headAnswer t ≡ accepted (header t)
       unfolding textLength ofLineOne refusal
-      head-accepted e =
+      head-passes e =
           ranges-yes ∙ answered-yes (textLength t) [] 4 (header t) (eq-eqb (length t) (lengthOf t) e) ∙ answered-none [] 4 (header t) refl
 
 pub head-fits : (t : Text) (h : Header) → readTold (Accepted h) ≡ headAnswer t → Fits t h

@@ -7,6 +7,5 @@ pub mod Carries
 pub mod Places
 pub mod Agrees
 pub mod Exact
-pub mod ReaderLaws
 pub mod RuleLaws
 pub mod ReadLaws

@@ -6,7 +6,7 @@ use mathlib.Core.List.{[], _∷_}
 use native.Mathlib.Omega.{arith}
 use Rattle.law.proofs.Bounded.{by-order}
 use Rattle.text.specs.Field.{Text, numberAt, formed}
-use Rattle.job.specs.Layout.{states, edges, subformulas, nodes, stateAt, edgeAt, subformulaAt, owner, label, source, target, kind, left, right, fieldsOf, lineAt}
+use Rattle.job.specs.Layout.{states, edges, subformulas, nodes, stateAt, edgeAt, subformulaAt, ownerField, labelField, sourceField, targetField, kindField, leftField, rightField, fieldsOf, lineAt}
 use Rattle.job.specs.Questions.{formedLine}
 use Rattle.job.proofs.LayoutLaws.{fields-two, line-pair, fields-three, line-triple}
 use Rattle.text.proofs.Line.{numbersAt}
@@ -51,17 +51,17 @@ module _ (t : Text) where
   unfolding numbersAt states edges subformulas nodes
   head-numbers = refl
 
-  pub state-numbers : (s : ℕ) → numbersAt t (stateAt s) 2 ≡ owner t s ∷ label t s ∷ []
-  unfolding numbersAt owner label
+  pub state-numbers : (s : ℕ) → numbersAt t (stateAt s) 2 ≡ ownerField t s ∷ labelField t s ∷ []
+  unfolding numbersAt ownerField labelField
   state-numbers s = refl
 
-  pub edge-numbers : (e : ℕ) → numbersAt t (edgeAt t e) 2 ≡ source t e ∷ target t e ∷ []
-  unfolding numbersAt source target
+  pub edge-numbers : (e : ℕ) → numbersAt t (edgeAt t e) 2 ≡ sourceField t e ∷ targetField t e ∷ []
+  unfolding numbersAt sourceField targetField
   edge-numbers e = refl
 
-  pub formula-numbers : (k : ℕ) → numbersAt t (subformulaAt t k) 3 ≡ kind t k ∷ left t k ∷ right t k ∷ []
-  unfolding numbersAt kind left right
-  formula-numbers k = ap (λ (at : ℕ). kind t k ∷ left t k ∷ numberAt t at ∷ []) (omega arith)
+  pub formula-numbers : (k : ℕ) → numbersAt t (subformulaAt t k) 3 ≡ kindField t k ∷ leftField t k ∷ rightField t k ∷ []
+  unfolding numbersAt kindField leftField rightField
+  formula-numbers k = ap (λ (at : ℕ). kindField t k ∷ leftField t k ∷ numberAt t at ∷ []) (omega arith)
 
   -- where an edge line and a subformula line stand, behind S states and E edges
   pub edge-place : (S e : ℕ) → states t ≡ S → edgeAt t e ≡ 21 + 11 * S + 11 * e

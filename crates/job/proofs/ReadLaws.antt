@@ -4,27 +4,30 @@ use Prim.Native.Nat.{ℕ, suc, _+_, _*_, _<_, _≤_}
 use mathlib.Core.Path.{_≡_, refl, sym, _∙_, ap}
 use mathlib.Core.Bool.{Bool, true, not}
 use mathlib.Core.List.{List, [], _∷_}
+use mathlib.Core.Option as opt
 use native.Mathlib.Nat.{add-assoc, mul-le-mul}
 use native.Mathlib.Omega.{arith}
-use borrow.Author.Tests.{eq-eqb, ne-eqb}
+use borrow.Author.Tests.{eq-eqb, ne-eqb, ltb-true}
 use lib.ListN.{drop}
+use lib.Dec.{ltb}
 use Rattle.law.specs.Bounded.{first, all}
+use Rattle.law.specs.Lists.{every}
 use Rattle.law.proofs.Bounded.{first-le, all-elim}
 use Rattle.law.proofs.Lists.{tab-length}
 use Rattle.text.specs.Field.{Text}
-use Rattle.job.specs.Layout.{states, edges, subformulas, nodes, label, kind, left, right}
+use Rattle.job.specs.Layout.{states, edges, subformulas, nodes, labelField, kindField, leftField, rightField}
 use Rattle.job.specs.Question.{Question, refusal, answered}
-use Rattle.job.specs.Questions.{ofLines, lineFields, stateLines, edgeLines, edgesOut, formulaLines, headQuestions, lineQuestions, textQuestions, formedLine, stateOk, edgeOk, hasEdgeOut, formulaOk, Accepted as Accepted-text}
+use Rattle.job.specs.Questions.{ofLineOne, ofLines, firstLine, ranges, textLength, lineFields, stateLines, edgeLines, edgesOut, formulaLines, headQuestions, lineQuestions, textQuestions, formedLine, stateOk, edgeOk, hasEdgeOut, formulaOk, Accepted as Accepted-text}
 use Rattle.job.specs.Formula.{parsed, formula}
 use Rattle.job.specs.Job.{size, subformulaCount, decode}
 use Rattle.job.specs.Answer.{accepted, refused}
 use Rattle.job.specs.Read.{header, headAnswer, readAnswer, readTold, refusalOf}
 use Rattle.job.specs.Leaves.{Fits, SourcesInside}
-use Rattle.job.specs.declared.reader.Header.{Header}
-use Rattle.job.specs.declared.reader.Refusal.{Refusal}
-use Rattle.job.specs.declared.reader.Reading.{Reading}
-use Rattle.job.specs.declared.reader.Reading.the-variants.{Accepted, Refused}
-use Rattle.job.proofs.QuestionLaws.{ComesTo, first-refused, answered-yes, answered-no, answered-none, accepted-none, accepted-own, refusal-before, answered-behind}
+use Rattle.job.specs.declared.reading.Header.{Header}
+use Rattle.job.specs.declared.reading.Refusal.{Refusal}
+use Rattle.job.specs.declared.reading.Reading.{Reading}
+use Rattle.job.specs.declared.reading.Reading.the-variants.{Accepted, Refused}
+use Rattle.job.proofs.QuestionLaws.{ComesTo, first-refused, refused-not-accepted, by-refusal, refusal-has, answered-yes, answered-no, answered-none, answered-some, accepted-none, accepted-own, refusal-before, answered-behind}
 use Rattle.job.proofs.Asked.{Passed, edge-ends, accepted-passed}
 use Rattle.job.proofs.LayoutLaws.{head-fits}
 
@@ -153,6 +156,24 @@ module _ {A : Type 0} (t : Text) (qs : List Question) (others : ℕ) (own : List
       let by-is : by ≡ why = same ∙ ap refusalOf is in
       rw by-is (text-refuses (why .number) (why .line) 4 (sym (ap readTold is) ∙ read))
 
+-- A refusal has a number.
+questions-numbered : (t : Text) → every (λ q. ltb 0 (q .number)) (textQuestions t) ≡ true
+unfolding every textQuestions headQuestions lineQuestions firstLine ranges textLength lineFields stateLines edgeLines edgesOut formulaLines ofLineOne ofLines
+questions-numbered t = refl
+
+pub refusal-numbered : (t : Text) (number line n : ℕ) → refused number line n ≡ readAnswer t → 0 < number
+unfolding readAnswer
+refusal-numbered t number line n is = by-refusal (textQuestions t) never some
+  where
+    never : refusal (textQuestions t) ≡ opt.none → 0 < number
+    never e = absurd (refused-not-accepted (header t) _ _ _ (sym (is ∙ answered-none (textQuestions t) 4 (header t) e)))
+
+    some : (q : Question) → refusal (textQuestions t) ≡ opt.some q → 0 < number
+    some q e =
+        let same = is ∙ answered-some (textQuestions t) 4 (header t) q e in
+        let number-is : number ≡ q .number = cc in
+        rw number-is (ltb-true 0 (q .number) (refusal-has (λ q. ltb 0 (q .number)) (textQuestions t) q (questions-numbered t) e))
+
 -- The table's length in a text's numbers, factor by factor.
 pub product-small : (t : Text) (h : Header) → Fits t h → (h .nodes * h .states ≤ 2048) × (h .nodes * h .states * h .subformulas ≤ 65536)
 product-small t h fits =
@@ -164,17 +185,17 @@ pub decode-length : (t : Text) → (decode t .nodes ≡ nodes t) × (size (decod
 unfolding size subformulaCount decode
 decode-length t = (
   refl,
-  tab-length (label t) (states t),
-  tab-length (λ k. formula (parsed k (kind t k) (left t k) (right t k))) (subformulas t),
+  tab-length (labelField t) (states t),
+  tab-length (λ k. formula (parsed k (kindField t k) (leftField t k) (rightField t k))) (subformulas t),
 )
 
 -- The numbers of the job that an accepted text describes.
 module _ (t : Text) (h : Header) (told : readTold (Accepted h) ≡ readAnswer t) where
-  pub size-read : size (decode t) ≡ h .states
-  size-read = decode-length t .1 ∙ read-fits t h told .states-are
+  pub size-told : size (decode t) ≡ h .states
+  size-told = decode-length t .1 ∙ read-fits t h told .states-are
 
-  pub subformulas-read : subformulaCount (decode t) ≡ h .subformulas
-  subformulas-read = decode-length t .2 ∙ read-fits t h told .subformulas-are
+  pub subformulas-told : subformulaCount (decode t) ≡ h .subformulas
+  subformulas-told = decode-length t .2 ∙ read-fits t h told .subformulas-are
 
-  pub nodes-read : decode t .nodes ≡ h .nodes
-  nodes-read = decode-length t .0 ∙ read-fits t h told .nodes-are
+  pub nodes-told : decode t .nodes ≡ h .nodes
+  nodes-told = decode-length t .0 ∙ read-fits t h told .nodes-are

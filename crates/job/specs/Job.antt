@@ -68,11 +68,11 @@ decode t =
     record {
       structure =
           record {
-            labels = tab (layout.label t) (layout.states t);
-            edges = tab (λ e. record { from = layout.source t e; to = layout.target t e }) (layout.edges t);
+            labels = tab (layout.labelField t) (layout.states t);
+            edges = tab (λ e. record { from = layout.sourceField t e; to = layout.targetField t e }) (layout.edges t);
           };
       formula =
-          tab (λ k. formula.formula (formula.parsed k (layout.kind t k) (layout.left t k) (layout.right t k))) (layout.subformulas t);
+          tab (λ k. formula.formula (formula.parsed k (layout.kindField t k) (layout.leftField t k) (layout.rightField t k))) (layout.subformulas t);
       nodes = layout.nodes t;
-      owners = tab (layout.owner t) (layout.states t);
+      owners = tab (layout.ownerField t) (layout.states t);
     }

@@ -34,28 +34,28 @@ unfoldable pub subformulaAt : Text → ℕ → ℕ
 subformulaAt t k = stateAt (states t + edges t) + 16 * k
 
 -- "S lines, one for each state from 0: owner, label."
-unfoldable pub owner : Text → ℕ → ℕ
-owner t s = numberAt t (stateAt s)
+unfoldable pub ownerField : Text → ℕ → ℕ
+ownerField t s = numberAt t (stateAt s)
 
-unfoldable pub label : Text → ℕ → ℕ
-label t s = numberAt t (stateAt s + 5)
+unfoldable pub labelField : Text → ℕ → ℕ
+labelField t s = numberAt t (stateAt s + 5)
 
 -- "E lines: from, to."
-unfoldable pub source : Text → ℕ → ℕ
-source t e = numberAt t (edgeAt t e)
+unfoldable pub sourceField : Text → ℕ → ℕ
+sourceField t e = numberAt t (edgeAt t e)
 
-unfoldable pub target : Text → ℕ → ℕ
-target t e = numberAt t (edgeAt t e + 5)
+unfoldable pub targetField : Text → ℕ → ℕ
+targetField t e = numberAt t (edgeAt t e + 5)
 
 -- "K lines, one for each subformula from 0: kind, a, b."
-unfoldable pub kind : Text → ℕ → ℕ
-kind t k = numberAt t (subformulaAt t k)
+unfoldable pub kindField : Text → ℕ → ℕ
+kindField t k = numberAt t (subformulaAt t k)
 
-unfoldable pub left : Text → ℕ → ℕ
-left t k = numberAt t (subformulaAt t k + 5)
+unfoldable pub leftField : Text → ℕ → ℕ
+leftField t k = numberAt t (subformulaAt t k + 5)
 
-unfoldable pub right : Text → ℕ → ℕ
-right t k = numberAt t (subformulaAt t k + 10)
+unfoldable pub rightField : Text → ℕ → ℕ
+rightField t k = numberAt t (subformulaAt t k + 10)
 
 -- Lines counted from 1: how many there are, and for line l its number of fields and its offset. An edge line is as long as
 -- a state line, so both are counted as one run.

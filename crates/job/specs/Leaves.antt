@@ -4,10 +4,10 @@ use mathlib.Core.Path.{_≡_}
 use mathlib.Core.Bool.{true}
 use lib.ListN.{length}
 use Rattle.text.specs.Field.{Text}
-use Rattle.job.specs.Layout.{states, edges, subformulas, nodes, source}
+use Rattle.job.specs.Layout.{states, edges, subformulas, nodes, sourceField}
 use Rattle.job.specs.Question.{allYes}
 use Rattle.job.specs.Questions.{headQuestions}
-use Rattle.job.specs.declared.reader.Header.{Header}
+use Rattle.job.specs.declared.reading.Header.{Header}
 
 -- Questions 1 to 3 are answered yes, and h has the numbers of line 1.
 pub record Fits (t : Text) (h : Header) : Type 0 where
@@ -28,4 +28,4 @@ pub record Fits (t : Text) (h : Header) : Type 0 where
 
 -- Each edge line starts from one of at most 256 states.
 abbrev pub SourcesInside : Text → Type 0
-SourcesInside t = (e : ℕ) → e < edges t → source t e < 256
+SourcesInside t = (e : ℕ) → e < edges t → sourceField t e < 256

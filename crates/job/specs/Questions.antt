@@ -10,7 +10,7 @@ use lib.ListN.{length}
 use lib.Dec.{leb, ltb, eqb}
 use Rattle.law.specs.Bounded.{first, all, any}
 use Rattle.text.specs.Field.{Text, formed}
-use Rattle.job.specs.Layout.{states, edges, subformulas, nodes, lengthOf, owner, label, source, target, kind, left, right, fieldsOf, lineAt}
+use Rattle.job.specs.Layout.{states, edges, subformulas, nodes, lengthOf, ownerField, labelField, sourceField, targetField, kindField, leftField, rightField, fieldsOf, lineAt}
 use Rattle.job.specs.Formula.{parsed, isFormula}
 use Rattle.job.specs.Question.{Question, refusal}
 
@@ -35,7 +35,7 @@ formedLine t i = formed t (lineAt t (2 + i)) (fieldsOf t (2 + i))
 
 -- "owner (a node, below N), label (0 to 65,535)"
 unfoldable pub stateOk : Text → ℕ → Bool
-stateOk t s = ltb (owner t s) (nodes t) && leb (label t s) 65535
+stateOk t s = ltb (ownerField t s) (nodes t) && leb (labelField t s) 65535
 
 -- "compared by from, then by to": the pair a, b is less than the pair c, d
 unfoldable pub less : ℕ → ℕ → ℕ → ℕ → Bool
@@ -43,18 +43,18 @@ less a b c d = ltb a c || (eqb a c && ltb b d)
 
 -- "each pair is greater than the one before"
 unfoldable pub ascends : Text → ℕ → Bool
-ascends t e = less (source t (e - 1)) (target t (e - 1)) (source t e) (target t e)
+ascends t e = less (sourceField t (e - 1)) (targetField t (e - 1)) (sourceField t e) (targetField t e)
 
 -- Both ends are below S, and the pair is greater than the one before, if any.
 unfoldable pub edgeOk : Text → ℕ → Bool
-edgeOk t e = ltb (source t e) (states t) && ltb (target t e) (states t) && (eqb e 0 || ascends t e)
+edgeOk t e = ltb (sourceField t e) (states t) && ltb (targetField t e) (states t) && (eqb e 0 || ascends t e)
 
 -- "each state has an edge out"
 unfoldable pub hasEdgeOut : Text → ℕ → Bool
-hasEdgeOut t s = any (λ e. eqb (source t e) s) (edges t)
+hasEdgeOut t s = any (λ e. eqb (sourceField t e) s) (edges t)
 
 unfoldable pub formulaOk : Text → ℕ → Bool
-formulaOk t k = isFormula (parsed k (kind t k) (left t k) (right t k))
+formulaOk t k = isFormula (parsed k (kindField t k) (leftField t k) (rightField t k))
 
 -- "Has the text 21 bytes or more, and is line 1 four well-formed fields and byte 10? No: 1, line 1."
 unfoldable pub firstLine : Text → Question

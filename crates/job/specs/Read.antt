@@ -11,9 +11,9 @@ use Rattle.job.specs.Layout.{states, edges, subformulas, nodes, lines, f
 use Rattle.job.specs.Question.{allYes, answered}
 use Rattle.job.specs.Questions.{headQuestions, textQuestions}
 use Rattle.job.specs.Answer.{Answer, accepted, refused}
-use Rattle.job.specs.declared.reader.Refusal.{Refusal}
-use Rattle.job.specs.declared.reader.Reading.{Reading}
-use Rattle.job.specs.declared.reader.Reading.the-variants.{Accepted, Refused}
+use Rattle.job.specs.declared.reading.Refusal.{Refusal}
+use Rattle.job.specs.declared.reading.Reading.{Reading}
+use Rattle.job.specs.declared.reading.Reading.the-variants.{Accepted, Refused}
 
 unfoldable pub header : Text → List ℕ
 header t = states t ∷ edges t ∷ subformulas t ∷ nodes t ∷ []

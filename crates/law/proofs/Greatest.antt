@@ -15,8 +15,8 @@ use Rattle.law.proofs.Least.{passes-step, passes-bound, passes-same, me
 unfoldable pub others : ℕ → (ℕ → Bool) → ℕ → Bool
 others n X s = ltb s n && not (X s)
 
-unfoldable pub dual : Rule → ℕ → Rule
-dual r n X s = not (r (others n X) s)
+unfoldable pub dualRule : Rule → ℕ → Rule
+dualRule r n X s = not (r (others n X) s)
 
 module _ (n : ℕ) (X : ℕ → Bool) where
   others-intro : (s : ℕ) → s < n → X s ≡ false → others n X s ≡ true
@@ -52,13 +52,13 @@ module _ (r : Rule) (n : ℕ) where
   kept k = member (passes r n k (replicate n true))
 
   abbrev dropped : ℕ → ℕ → Bool
-  dropped k = member (passes (dual r n) n k (replicate n false))
+  dropped k = member (passes (dualRule r n) n k (replicate n false))
 
   kept-bound : (k s : ℕ) → kept k s ≡ true → s < n
   kept-bound = passes-bound r n (replicate n true) (length-replicate n true)
 
   kept-others : (k s : ℕ) → kept k s ≡ others n (dropped k) s
-  unfolding passes dual
+  unfolding passes dualRule
   kept-others zero =
       others-is n (dropped 0) (kept 0) (kept-bound 0)
       (λ s l. member-full n s l ∙ sym (not-is-true (dropped 0 s) (member-none n s)))
@@ -67,10 +67,10 @@ module _ (r : Rule) (n : ℕ) where
       (λ s l.
       passes-step r n (replicate n true) k s l
       ∙ ap (λ (X : ℕ → Bool). r X s) (fun-ext (kept-others k))
-      ∙ sym (ap not (passes-step (dual r n) n (replicate n false) k s l) ∙ not-not (r (others n (dropped k)) s)))
+      ∙ sym (ap not (passes-step (dualRule r n) n (replicate n false) k s l) ∙ not-not (r (others n (dropped k)) s)))
 
   -- the greatest set of r is what the least set of the dual leaves
-  pub greatest-dual : member (greatest r n) ≡ others n (member (least (dual r n) n))
+  pub greatest-dual : member (greatest r n) ≡ others n (member (least (dualRule r n) n))
   unfolding greatest least
   greatest-dual = fun-ext (kept-others n)
 
@@ -84,8 +84,8 @@ unfolding greatest
 greatest-same r q n same = passes-same r q n same (replicate n true) n
 
 module _ (r : Rule) (n : ℕ) (mono : Monotone r) where
-  dual-monotone : Monotone (dual r n)
-  unfolding dual
+  dual-monotone : Monotone (dualRule r n)
+  unfolding dualRule
   dual-monotone X Y inside s e =
       not-is-true (r (others n Y) s)
       (contrapose (r (others n Y) s) (r (others n X) s)
@@ -94,24 +94,24 @@ module _ (r : Rule) (n : ℕ) (mono : Monotone r) where
       (not-true (r (others n X) s) e))
 
   abbrev outside : ℕ → Bool
-  outside = member (least (dual r n) n)
+  outside = member (least (dualRule r n) n)
 
   -- the greatest set is a fixed point of the rule, and holds every set whose members satisfy the rule in it
   pub greatest-supported : (s : ℕ) → member (greatest r n) s ≡ true → r (member (greatest r n)) s ≡ true
-  unfolding dual
+  unfolding dualRule
   greatest-supported =
       rw (greatest-dual r n)
       (λ s e. not-false (r (others n outside) s)
       (contrapose (not (r (others n outside) s)) (outside s)
-      (least-closed (dual r n) n dual-monotone s (others-bound n outside s e))
+      (least-closed (dualRule r n) n dual-monotone s (others-bound n outside s e))
       (others-out n outside s e)))
 
   pub greatest-rule : Inside n (r (member (greatest r n))) (member (greatest r n))
-  unfolding dual
+  unfolding dualRule
   greatest-rule =
       rw (greatest-dual r n)
       (λ s l e. others-intro n outside s l
-      (contrapose (outside s) (not (r (others n outside) s)) (least-rule (dual r n) n dual-monotone s)
+      (contrapose (outside s) (not (r (others n outside) s)) (least-rule (dualRule r n) n dual-monotone s)
       (not-is-false (r (others n outside) s) e)))
 
   pub greatest-holds :
@@ -121,16 +121,16 @@ module _ (r : Rule) (n : ℕ) (mono : Monotone r) where
       → (s : ℕ)
       → Y s ≡ true
       → member (greatest r n) s ≡ true
-  unfolding dual
+  unfolding dualRule
   greatest-holds Y bound supported =
       let Z = others n Y in
       let back : (u : ℕ) → Y u ≡ true → others n Z u ≡ true =
       λ u y. others-intro n Z u (bound u y) (others-without n Y u y) in
-      let closed : Inside n (dual r n Z) Z =
+      let closed : Inside n (dualRule r n Z) Z =
       λ u l o.
       others-intro n Y u l
       (contrapose (Y u) (r (others n Z) u) (λ y. mono Y (others n Z) back u (supported u l y)) (not-true (r (others n Z) u) o)) in
       rw (greatest-dual r n)
       (λ s e.
       others-intro n outside s (bound s e)
-      (contrapose (outside s) (Z s) (least-inside (dual r n) n dual-monotone Z closed s) (others-without n Y s e)))
+      (contrapose (outside s) (Z s) (least-inside (dualRule r n) n dual-monotone Z closed s) (others-without n Y s e)))

@@ -111,12 +111,12 @@ module _ (J : Job) (n k : ℕ) (t : Table) (stale : List ℕ) (u : Table) (told 
             (column-apart n k m s j (λ p q. apart (rw (p, q) refl))));
       }
 
-  pub column-idle : told ≡ 0 → PartCopied J (ofColumn n k) t stale u stale 0
-  column-idle none =
+  pub copied-idle : told ≡ 0 → PartCopied J (ofColumn n k) t stale u stale 0
+  copied-idle none =
       rw none at (column-copied stale (mark-none t (columnByte n k) stale u (leaves-nothing J t (ofColumn n k) (copied J t) u told l none)))
 
-  pub column-marked : columnByte n k < length stale → PartCopied J (ofColumn n k) t stale u (set stale (columnByte n k) 1) told
-  column-marked room = column-copied (set stale (columnByte n k) 1) (mark-set t (columnByte n k) stale u room)
+  pub copied-marked : columnByte n k < length stale → PartCopied J (ofColumn n k) t stale u (set stale (columnByte n k) 1) told
+  copied-marked room = column-copied (set stale (columnByte n k) 1) (mark-set t (columnByte n k) stale u room)
 
 -- What stays while cells are copied.
 module _ (m : List ℕ) (t : Table) (lent : Lent m t) (keep : Cells) (stale : List ℕ) (u : Table) (stale′ : List ℕ) (c : ℕ)

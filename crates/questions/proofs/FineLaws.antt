@@ -20,7 +20,7 @@ use Rattle.cells.specs.Calls.{Call, ownQuestions, nodeRead}
 use Rattle.cells.proofs.FragmentLaws.{border-inside}
 use Rattle.image.specs.Image.{IsImage, jobOf}
 use Rattle.table.specs.Lent.{Ready, IsCell}
-use Rattle.questions.proofs.NoLaws.{table-ready, node-ready, offer-asked, accept-asked, look-asked, close-asked, numbers-in}
+use Rattle.questions.proofs.NoLaws.{table-ready, node-ready, offer-number, accept-number, look-number, close-number, numbers-in}
 
 -- a question that is answered yes, and those behind it too
 cond-zero : (b : Bool) (x y : ℕ) → cond b x (suc y) ≡ 0 → (b ≡ true) × (x ≡ 0)
@@ -49,7 +49,7 @@ module _ (m : List ℕ) (t : Table) (image : IsImage m) (r : ℕ) (none : r ≡ 
       let owner : ℕ = cond (not (isEmpty (ownerCell (jobOf m) t s k))) 0 14 in
       let (numbers, rest) =
       cond-zero (ltb s (size (jobOf m)) && ltb k (subformulaCount (jobOf m))) (cond (isTemporal (jobOf m) k) owner 13) 11
-      (sym (offer-asked ready s k) ∙ sym asked ∙ none) in
+      (sym (offer-number ready s k) ∙ sym asked ∙ none) in
       (ready, numbers-in (jobOf m) s k numbers)
 
   pub accept-fine :
@@ -68,7 +68,7 @@ module _ (m : List ℕ) (t : Table) (image : IsImage m) (r : ℕ) (none : r ≡ 
       let at-15 : ℕ = cond (leb v 1) at-16 15 in
       let (numbers, rest) =
       cond-zero (ltb s (size (jobOf m)) && ltb k (subformulaCount (jobOf m))) (cond (isTemporal (jobOf m) k) at-15 13) 11
-      (sym (accept-asked ready n s k v under) ∙ sym asked ∙ none) in
+      (sym (accept-number ready n s k v under) ∙ sym asked ∙ none) in
       let (temporal, others) = cond-zero (isTemporal (jobOf m) k) at-15 12 rest in
       let (value, last) = cond-zero (leb v 1) at-16 14 others in
       let (at-border, agrees) = cond-zero (border (jobOf m) n s) at-17 15 last in
@@ -82,7 +82,7 @@ module _ (m : List ℕ) (t : Table) (image : IsImage m) (r : ℕ) (none : r ≡ 
       let ready = front-ready _ asked in
       let at-18 : ℕ = cond (inFragment (jobOf m) (nodeRead n) s) 0 18 in
       let at-12 : ℕ = cond (ltb s (size (jobOf m)) && ltb k (subformulaCount (jobOf m))) at-18 12 in
-      let (node, rest) = cond-zero (ltb n (jobOf m .nodes) || eqb n 255) at-12 10 (sym (look-asked ready n s k) ∙ sym asked ∙ none) in
+      let (node, rest) = cond-zero (ltb n (jobOf m .nodes) || eqb n 255) at-12 10 (sym (look-number ready n s k) ∙ sym asked ∙ none) in
       let (numbers, last) = cond-zero (ltb s (size (jobOf m)) && ltb k (subformulaCount (jobOf m))) at-18 11 rest in
       let (state, subformula) = numbers-in (jobOf m) s k numbers in
       let some = ready .lent .image .is-job .nodes .above in
@@ -100,6 +100,6 @@ module _ (m : List ℕ) (t : Table) (image : IsImage m) (r : ℕ) (none : r ≡ 
   close-fine asked =
       let ready = front-ready _ asked in
       let (still, rest) =
-      cond-zero (settled (jobOf m) t) (cond (someOpen (jobOf m) t) 0 20) 18 (sym (close-asked ready) ∙ sym asked ∙ none) in
+      cond-zero (settled (jobOf m) t) (cond (someOpen (jobOf m) t) 0 20) 18 (sym (close-number ready) ∙ sym asked ∙ none) in
       let (some, last) = cond-zero (someOpen (jobOf m) t) 0 19 rest in
       (ready, ltb-true (smallestOpen (jobOf m) t) (subformulaCount (jobOf m)) some)

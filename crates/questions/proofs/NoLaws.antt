@@ -2,7 +2,7 @@
 -- Assumes nothing.
 use Prim.Native.Nat.{ℕ, _*_, _<_, _≤_}
 use mathlib.Core.Path.{_≡_, refl, sym, _∙_, ap₂}
-use mathlib.Core.Bool.{true, false, cond, not, _&&_, _||_}
+use mathlib.Core.Bool.{Bool, true, false, cond, not, _&&_, _||_}
 use mathlib.Core.List.{List, [], _∷_, _++_}
 use native.Mathlib.Omega.{arith}
 use borrow.Author.Tests.{eq-eqb, ne-eqb, eqb-true, lt-ltb, le-ltb, ltb-true, not-true, not-false}
@@ -64,10 +64,10 @@ module _ (J : Job) (t : Table) where
   node-first n qs r asked some =
       asked ∙ sym (noNumber-first (tableSize J t ∷ (tableCells J t ∷ (nodeBelow J n ∷ []))) qs (λ none. some (asked ∙ none)))
 
-  pub table-asked :
+  pub table-number :
       noNumber (ownQuestions Call.finish J t) ≡ cond (eqb (length t) (tableLength J)) (cond (cellsRight J t) 0 10) 9
   unfolding ownQuestions tableSize tableCells ofCall
-  table-asked = simp (noNumber-cond, noNumber-none)
+  table-number = simp (noNumber-cond, noNumber-none)
 
   -- none is the first no: both are answered yes
   front-own : every isOwn (tableSize J t ∷ (tableCells J t ∷ [])) ≡ true
@@ -155,19 +155,19 @@ module _ {m : List ℕ} {t : Table} (ready : Ready m t) where
       behind-table (nodeBelow (jobOf m) n ∷ qs) ∙ noNumber-yes (nodeBelow (jobOf m) n) qs (node-yes (jobOf m) n under)
 
   -- What is left to ask of each call.
-  pub step-asked : (n : ℕ) → noNumber (ownQuestions (Call.step n) (jobOf m) t) ≡ cond (ltb n (jobOf m .nodes)) 0 11
+  pub step-number : (n : ℕ) → noNumber (ownQuestions (Call.step n) (jobOf m) t) ≡ cond (ltb n (jobOf m .nodes)) 0 11
   unfolding ownQuestions nodeBelow ofCall
-  step-asked n = behind-table _ ∙ simp (noNumber-cond, noNumber-none)
+  step-number n = behind-table _ ∙ simp (noNumber-cond, noNumber-none)
 
-  pub offer-asked :
+  pub offer-number :
       (s k : ℕ)
       → noNumber (ownQuestions (Call.offer s k) (jobOf m) t)
       ≡ cond (ltb s (size (jobOf m)) && ltb k (subformulaCount (jobOf m)))
       (cond (isTemporal (jobOf m) k) (cond (not (isEmpty (ownerCell (jobOf m) t s k))) 0 14) 13) 12
   unfolding ownQuestions numbersBelow temporalNamed ownerFilled ofCall
-  offer-asked s k = behind-table _ ∙ simp (noNumber-cond, noNumber-none)
+  offer-number s k = behind-table _ ∙ simp (noNumber-cond, noNumber-none)
 
-  pub accept-asked :
+  pub accept-number :
       (n s k v : ℕ)
       → n < jobOf m .nodes
       → noNumber (ownQuestions (Call.accept n s k v) (jobOf m) t)
@@ -177,19 +177,45 @@ module _ {m : List ℕ} {t : Table} (ready : Ready m t) where
       (cond (border (jobOf m) n s)
       (cond (isEmpty (cell (jobOf m) t n s k) || eqb (cell (jobOf m) t n s k) v) 0 17) 16) 15) 13) 12
   unfolding ownQuestions numbersBelow temporalNamed truthValue stateAtBorder cellAgrees ofCall
-  accept-asked n s k v under = behind-node n under _ ∙ simp (noNumber-cond, noNumber-none)
+  accept-number n s k v under = behind-node n under _ ∙ simp (noNumber-cond, noNumber-none)
 
-  pub look-asked :
+  pub look-number :
       (n s k : ℕ)
       → noNumber (ownQuestions (Call.look n s k) (jobOf m) t)
       ≡ cond (ltb n (jobOf m .nodes) || eqb n 255)
       (cond (ltb s (size (jobOf m)) && ltb k (subformulaCount (jobOf m))) (cond (inFragment (jobOf m) (nodeRead n) s) 0 18) 12) 11
   unfolding ownQuestions nodeOr255 numbersBelow stateInFragment ofCall
-  look-asked n s k = behind-table _ ∙ simp (noNumber-cond, noNumber-none)
+  look-number n s k = behind-table _ ∙ simp (noNumber-cond, noNumber-none)
 
-  pub close-asked : noNumber (ownQuestions Call.close (jobOf m) t) ≡ cond (settled (jobOf m) t) (cond (someOpen (jobOf m) t) 0 20) 19
+  pub close-number : noNumber (ownQuestions Call.close (jobOf m) t) ≡ cond (settled (jobOf m) t) (cond (someOpen (jobOf m) t) 0 20) 19
   unfolding ownQuestions tableSettled someOwnerEmpty ofCall
-  close-asked = behind-table _ ∙ simp (noNumber-cond, noNumber-none)
+  close-number = behind-table _ ∙ simp (noNumber-cond, noNumber-none)
+
+-- Questions 12 and 13: a no to one of them, and a yes to both, before whatever else is asked.
+pub named-number :
+    (J : Job) (s k : ℕ)
+    → noNumber (numbersBelow J s k ∷ (temporalNamed J k ∷ []))
+    ≡ cond (ltb s (size J) && ltb k (subformulaCount J)) (cond (isTemporal J k) 0 13) 12
+unfolding numbersBelow temporalNamed ofCall
+named-number J s k = simp (noNumber-cond, noNumber-none)
+
+two-no : (a b : Bool) (x r : ℕ) → r ≡ cond a (cond b 0 13) 12 → (r ≡ 0 → ⊥) → r ≡ cond a (cond b x 13) 12
+two-no true true x r is some = absurd (some is)
+two-no true false x r is some = is
+two-no false b x r is some = is
+
+two-yes : (a b : Bool) (r : ℕ) → r ≡ cond a (cond b 0 13) 12 → r ≡ 0 → (a ≡ true) × (b ≡ true)
+two-yes true true r is none = (refl, refl)
+two-yes true false r is none = absurd (let never : _≡_ {A = ℕ} 13 0 = sym is ∙ none in omega arith)
+two-yes false b r is none = absurd (let never : _≡_ {A = ℕ} 12 0 = sym is ∙ none in omega arith)
+
+module _ (J : Job) (s k r : ℕ) (asked : r ≡ noNumber (numbersBelow J s k ∷ (temporalNamed J k ∷ []))) where
+  pub named-no :
+      (x : ℕ) → (r ≡ 0 → ⊥) → r ≡ cond (ltb s (size J) && ltb k (subformulaCount J)) (cond (isTemporal J k) x 13) 12
+  named-no x some = two-no (ltb s (size J) && ltb k (subformulaCount J)) (isTemporal J k) x r (asked ∙ named-number J s k) some
+
+  pub named-yes : r ≡ 0 → ((ltb s (size J) && ltb k (subformulaCount J)) ≡ true) × (isTemporal J k ≡ true)
+  named-yes none = two-yes (ltb s (size J) && ltb k (subformulaCount J)) (isTemporal J k) r (asked ∙ named-number J s k) none
 
 -- Questions 16 and 18, in the place that is read.
 module _ (J : Job) (n s r : ℕ) (is : r ≡ placeOf J n s) where
@@ -199,11 +225,11 @@ module _ (J : Job) (n s r : ℕ) (is : r ≡ placeOf J n s) where
   pub at-border : r ≡ 1 → border J n s ≡ true
   at-border one = sym (place-border J n s) ∙ eq-eqb (placeOf J n s) 1 (sym is ∙ one)
 
-  pub outside : r ≡ 0 → inFragment J n s ≡ false
-  outside none = not-true (inFragment J n s) (sym (place-outside J n s) ∙ eq-eqb (placeOf J n s) 0 (sym is ∙ none))
+  pub out-of-fragment : r ≡ 0 → inFragment J n s ≡ false
+  out-of-fragment none = not-true (inFragment J n s) (sym (place-outside J n s) ∙ eq-eqb (placeOf J n s) 0 (sym is ∙ none))
 
-  pub within : (r ≡ 0 → ⊥) → inFragment J n s ≡ true
-  within some = not-false (inFragment J n s) (sym (place-outside J n s) ∙ ne-eqb (placeOf J n s) 0 (λ e. some (is ∙ e)))
+  pub in-fragment : (r ≡ 0 → ⊥) → inFragment J n s ≡ true
+  in-fragment some = not-false (inFragment J n s) (sym (place-outside J n s) ∙ ne-eqb (placeOf J n s) 0 (λ e. some (is ∙ e)))
 
 -- Question 11 of look, in the node that is read.
 module _ (J : Job) (n r : ℕ) (is : r ≡ nodeRead n) where

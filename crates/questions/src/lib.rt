@@ -1,14 +1,17 @@
 // The questions that each call puts behind 1 to 8: one function for a call, which gives the number of the first no, 0 where there is none.
 // Fresh, which decodes nothing, puts its one itself.
 ghost use mathlib.Core.Path.{_≡_};
-ghost use mathlib.Core.Bool.{not, _&&_, _||_};
+ghost use mathlib.Core.Bool.{_&&_, _||_};
+ghost use mathlib.Core.List.{[], _∷_};
 ghost use lib.Dec.{ltb, eqb};
 ghost use Rattle.job.specs.Job.{size, subformulaCount};
 ghost use Rattle.job.specs.Question.{noNumber};
 ghost use Rattle.cells.specs.Table.{isEmpty};
+ghost use Rattle.cells.specs.Questions.{numbersBelow, temporalNamed};
 ghost use Rattle.cells.specs.Calls.{Call, ownQuestions, nodeRead};
 ghost use Rattle.image.specs.Image.{IsImage, jobOf};
 use closing::smallest_open;
+use exchange::settled::settled;
 use image::image::Image;
 use image::image::nodes;
 use image::image::place;
@@ -17,10 +20,9 @@ use image::image::subformula;
 use image::image::subformulas;
 use job::rule::is_temporal;
 use job::rule::rule_of;
-use rounds::settled::settled;
+use right_cells::cells_right;
 use table::cell::cell;
 use table::cell::owner_cell;
-use table::right::cells_right;
 
 // Finish, and before their other questions all calls but fresh: 9 and 10.
 pub fn table_no(m: &Image, table: &[u8]) -> u8
@@ -61,6 +63,20 @@ fn are_in(m: &Image, s: usize, k: usize) -> bool
     k < subformulas(m)
 }
 
+// Questions 12 and 13: what a message names.
+fn named_no(m: &Image, s: usize, k: usize) -> u8
+    requires { ⌜ IsImage (now m) ⌝ }
+    ensures { λ r. ⌜ r ≡ noNumber (numbersBelow (jobOf (now (m .entry))) s k ∷ temporalNamed (jobOf (now (m .entry))) k ∷ []) ⌝ }
+{
+    if !are_in(m, s, k) {
+        return 12;
+    }
+    if !is_temporal(rule_of(subformula(m, k))) {
+        return 13;
+    }
+    0
+}
+
 pub fn offer_no(m: &Image, table: &[u8], s: usize, k: usize) -> u8
     requires { ⌜ IsImage (now m) ⌝ }
     ensures { λ r. ⌜ r ≡ noNumber (ownQuestions (Call.offer s k) (jobOf (now (m .entry))) (now (table .entry))) ⌝ }
@@ -69,11 +85,9 @@ pub fn offer_no(m: &Image, table: &[u8], s: usize, k: usize) -> u8
     if no != 0 {
         return no;
     }
-    if !are_in(m, s, k) {
-        return 12;
-    }
-    if !is_temporal(rule_of(subformula(m, k))) {
-        return 13;
+    let no = named_no(m, s, k);
+    if no != 0 {
+        return no;
     }
     if owner_cell(m, table, s, k) == 2 {
         return 14;
@@ -99,11 +113,9 @@ pub fn accept_no(m: &Image, table: &[u8], n: usize, s: usize, k: usize, v: u8) -
     if no != 0 {
         return no;
     }
-    if !are_in(m, s, k) {
-        return 12;
-    }
-    if !is_temporal(rule_of(subformula(m, k))) {
-        return 13;
+    let no = named_no(m, s, k);
+    if no != 0 {
+        return no;
     }
     if 1 < v {
         return 15;

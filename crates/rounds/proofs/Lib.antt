@@ -1,5 +1,4 @@
-pub mod ReadyLaws
 pub mod RoundLaws
 pub mod RunningLaws
-pub mod SettledLaws
 pub mod CameLaws
+pub mod FinishLaws

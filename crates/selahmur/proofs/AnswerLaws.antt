@@ -13,11 +13,14 @@ use Rattle.job.specs.Read.{lineStart, lineLength, lineOf}
 use Rattle.job.proofs.QuestionLaws.{by-refusal, answered-none, answered-some}
 use Rattle.cells.specs.Table.{Table}
 use Rattle.cells.specs.Calls.{Call, fresh, step, offer, accept, look, close, finish, width, told, questions, answer}
-use Rattle.selahmur.specs.Stored.{stored, storedAnswer}
-use Rattle.selahmur.proofs.StoredLaws.{stored-front}
+use Rattle.numbers.specs.Stored.{stored}
+use Rattle.numbers.proofs.StoredLaws.{stored-front}
+use Rattle.selahmur.specs.StoredAnswer.{storedAnswer}
 
-pub stored-told : (out : List ℕ) {last : List ℕ} {a b : Answer} → a ≡ b → last ≡ stored out (numbers a) → last ≡ stored out (numbers b)
-stored-told out same e = e ∙ ap (λ a. stored out (numbers a)) same
+-- the numbers of what a call told, which is its answer
+pub stored-told : (out : List ℕ) {last ns : List ℕ} {a b : Answer} → ns ≡ numbers a → a ≡ b → last ≡ stored out ns
+    → last ≡ stored out (numbers b)
+stored-told out all same e = e ∙ ap (stored out) (all ∙ ap numbers same)
 
 own-width : (c : Call) (J : Job) (t : Table) → length (told c J t) ≡ width c
 unfolding told width

@@ -1,2 +1,1 @@
-pub mod StoredLaws
 pub mod AnswerLaws

@@ -4,5 +4,4 @@
 // may be passed. `include/selahmur.h` declares the functions, and `rt staticlib selahmur` writes the archive.
 pub mod message;
 pub mod reading;
-pub mod store;
 pub mod work;

@@ -1,13 +1,13 @@
 // The calls about messages: offer and accept. A refusal leaves every byte of the table.
 ghost use mathlib.Core.Path.{_≡_};
 ghost use Rattle.cells.specs.Calls.{Call, after};
-ghost use Rattle.selahmur.specs.Stored.{storedAnswer};
-use crate::store::store;
-use calls::accept::Delivered;
+ghost use Rattle.selahmur.specs.StoredAnswer.{storedAnswer};
 use calls::accept::accept;
 use calls::offer::Message;
-use calls::offer::Offered;
 use calls::offer::offer;
+use numbers::answers::of_accept;
+use numbers::answers::of_offer;
+use numbers::store::store;
 
 // Hands out a message from the owner's cell. Own numbers: state, subformula, value.
 #[no_mangle]
@@ -21,10 +21,7 @@ pub extern "C" fn selahmur_offer(
     ensures told { λ _. ⌜ now (out .exit) ≡ storedAnswer (now (out .entry)) (Call.offer state subformula) (now (text .entry)) (now (table .entry)) ⌝ }
     ensures left { λ _. ⌜ now (table .entry) ≡ after (Call.offer state subformula) (now (text .entry)) (now (table .entry)) ⌝ }
 {
-    match offer(text, table, state, subformula) {
-        Offered::Accepted(m) => store(out, &[0, 0, m.state, m.subformula, m.value as usize]),
-        Offered::Refused(why) => store(out, &[why.number as usize, why.line, 0, 0, 0]),
-    }
+    store(out, &of_offer(offer(text, table, state, subformula)));
 }
 
 // A node's cell at a border state takes a message's value, if it is empty. Own number: how many cells are filled, 0 or 1.
@@ -38,7 +35,10 @@ pub extern "C" fn selahmur_accept(
     value: u8,
     out: &mut [usize],
 )
-    ensures told { λ _. ⌜ now (out .exit) ≡ storedAnswer (now (out .entry)) (Call.accept node state subformula value) (now (text .entry)) (now (table .entry)) ⌝ }
+    ensures told { λ _. ⌜
+        now (out .exit)
+        ≡ storedAnswer (now (out .entry)) (Call.accept node state subformula value) (now (text .entry)) (now (table .entry))
+        ⌝ }
     ensures left { λ _. ⌜ now (table .exit) ≡ after (Call.accept node state subformula value) (now (text .entry)) (now (table .entry)) ⌝ }
 {
     let message = Message {
@@ -46,8 +46,5 @@ pub extern "C" fn selahmur_accept(
         subformula,
         value,
     };
-    match accept(text, table, node, message) {
-        Delivered::Accepted(filled) => store(out, &[0, 0, filled]),
-        Delivered::Refused(why) => store(out, &[why.number as usize, why.line, 0]),
-    }
+    store(out, &of_accept(accept(text, table, node, message)));
 }

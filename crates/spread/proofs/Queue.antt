@@ -135,16 +135,16 @@ module _ (J : Job) (n : ℕ) (marks : List ℕ) where
   abbrev passed : ℕ → ℕ → Bool
   passed = among (fragmentState J n)
 
-  abbrev pub Passed : List ℕ → ℕ → ℕ → Type 0
-  Passed queue tail i = Lists (λ s. passed i s && mark s) (size J) queue tail
+  abbrev pub QueuedBelow : List ℕ → ℕ → ℕ → Type 0
+  QueuedBelow queue tail i = Lists (λ s. passed i s && mark s) (size J) queue tail
 
-  pub start-none : (queue : List ℕ) → length queue ≡ 256 → Passed queue 0 0
+  pub start-none : (queue : List ℕ) → length queue ≡ 256 → QueuedBelow queue 0 0
   start-none queue long =
       lists-none (λ s. passed 0 s && mark s) (size J) queue long
       (λ s l. and-no-left (passed 0 s) (mark s) (among-none (fragmentState J n) s))
 
   -- a state more of the list, which has mark 2 or not
-  module _ (job : IsJob J) {queue : List ℕ} {tail i : ℕ} (l : Passed queue tail i) (g : i < fragmentSize J n) (s : ℕ)
+  module _ (job : IsJob J) {queue : List ℕ} {tail i : ℕ} (l : QueuedBelow queue tail i) (g : i < fragmentSize J n) (s : ℕ)
       (s-is : s ≡ fragmentState J n i) where
     inside : s < size J
     inside = rw s-is (fragment-bound J job n (fragmentState J n i) (state-inside J job n i g))
@@ -165,7 +165,7 @@ module _ (J : Job) (n : ℕ) (marks : List ℕ) where
         ∙ ap (λ b. passed i u || b) (ne-eqb (fragmentState J n i) u (λ e. q (sym (s-is ∙ e))))
         ∙ or-false (passed i u)
 
-    pub start-rest : (getD marks s 0 ≡ 2 → ⊥) → Passed queue tail (i + 1)
+    pub start-rest : (getD marks s 0 ≡ 2 → ⊥) → QueuedBelow queue tail (i + 1)
     start-rest other =
         lists-same l (λ u. passed (i + 1) u && mark u)
         (λ u h.
@@ -186,12 +186,12 @@ module _ (J : Job) (n : ℕ) (marks : List ℕ) where
       start-room =
           lists-room l (λ u. passed (i + 1) u && mark u) s (job .states .below) inside (and-no-left (passed i s) (mark s) new) now-passed others
 
-      pub start-push : Passed (set queue tail s) (tail + 1) (i + 1)
+      pub start-push : QueuedBelow (set queue tail s) (tail + 1) (i + 1)
       start-push =
           lists-push l (λ u. passed (i + 1) u && mark u) s (job .states .below) inside (and-no-left (passed i s) (mark s) new) now-passed others
 
   -- at the list's end every state of the fragment was passed
-  pub start-over : IsJob J → {queue : List ℕ} {tail : ℕ} → Passed queue tail (fragmentSize J n) → Lists (inSet J n marks) (size J) queue tail
+  pub start-over : IsJob J → {queue : List ℕ} {tail : ℕ} → QueuedBelow queue tail (fragmentSize J n) → Lists (inSet J n marks) (size J) queue tail
   unfolding inSet
   start-over job l =
       lists-same l (λ s. inFragment J n s && mark s)

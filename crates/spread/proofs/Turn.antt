@@ -19,7 +19,7 @@ use Rattle.job.specs.Written.{IsJob, edgeCount}
 use Rattle.job.proofs.Successors.{over-mono}
 use Rattle.cells.specs.Fragment.{inFragment}
 use Rattle.cells.proofs.FragmentLaws.{owns-intro, owned-inside}
-use Rattle.image.specs.Image.{from, to}
+use Rattle.image.specs.Image.{edgeFrom, edgeTo}
 use Rattle.spread.specs.Spread.{spreadRule}
 use Rattle.spread.specs.Underway.{enough, outs, seenOuts, inSet, Underway}
 use Rattle.spread.proofs.Queue.{lists-room, lists-push}
@@ -85,11 +85,11 @@ pub record OneMore (J : Job) (n : ℕ) (all : Bool) (before : List ℕ) (seen se
   pub job : IsJob J
   pub underway : Underway J n all before seen marks counts queue tail
   pub inside : e < edgeCount J
-  pub ours : owner J (from (J .structure) e) ≡ n
+  pub ours : owner J (edgeFrom (J .structure) e) ≡ n
   pub new : seen e ≡ false
   pub seen-now : seen′ e ≡ true
   pub others : (j : ℕ) → j < edgeCount J → (j ≡ e → ⊥) → seen′ j ≡ seen j
-  pub target-marked : getD marks (to (J .structure) e) 0 ≡ 2
+  pub target-marked : getD marks (edgeTo (J .structure) e) 0 ≡ 2
 
 module _ {J : Job} {n : ℕ} {all : Bool} {before : List ℕ} {seen seen′ : ℕ → Bool} {marks counts queue : List ℕ} {tail e : ℕ}
     (o : OneMore J n all before seen seen′ marks counts queue tail e) where
@@ -97,7 +97,7 @@ module _ {J : Job} {n : ℕ} {all : Bool} {before : List ℕ} {seen seen′ : �
   w = o .underway
 
   abbrev s : ℕ
-  s = from (J .structure) e
+  s = edgeFrom (J .structure) e
 
   abbrev told : ℕ
   told = getD counts s 0 + 1
@@ -125,7 +125,7 @@ module _ {J : Job} {n : ℕ} {all : Bool} {before : List ℕ} {seen seen′ : �
       (count-here ∙ ap (λ k. k + 1) (w .counted s s-in) ∙ sym (seen-here J seen seen′ e (o .inside) (o .new) (o .seen-now) (o .others))))
       (λ q. count-other u q ∙ w .counted u g ∙ sym (seen-other J seen seen′ e (o .inside) (o .new) (o .seen-now) (o .others) u q))
 
-  seen-in′ : (j : ℕ) → j < edgeCount J → seen′ j ≡ true → getD marks (to (J .structure) j) 0 ≡ 2
+  seen-in′ : (j : ℕ) → j < edgeCount J → seen′ j ≡ true → getD marks (edgeTo (J .structure) j) 0 ≡ 2
   seen-in′ j g t =
       by-equal j e (λ q. rw q (o .target-marked)) (λ q. w .seen-in j g (sym (o .others j g q) ∙ t))
 
@@ -167,7 +167,7 @@ module _ {J : Job} {n : ℕ} {all : Bool} {before : List ℕ} {seen seen′ : �
     holds =
         least-joins J all before s s-in (marked-may w s may)
         (enough-over J all seen′ (inLeast J all before) s
-        (λ j g t. marked-sound w (to (J .structure) j) (target-in J (o .job) j g) (seen-in′ j g t))
+        (λ j g t. marked-sound w (edgeTo (J .structure) j) (target-in J (o .job) j g) (seen-in′ j g t))
         (rw (← counted′ s s-in, count-here) (and-right (eqb (getD marks s 0) 1) test joins)))
 
     mark-here : getD (set marks s 2) s 0 ≡ 2
@@ -214,6 +214,6 @@ module _ {J : Job} {n : ℕ} {all : Bool} {before : List ℕ} {seen seen′ : �
               by-equal u s
               (λ q. let two : getD (set marks s 2) u 0 ≡ 2 = rw q mark-here in let stop : ⊥ = omega arith in absurd stop)
               (λ q. waits-other u g q (sym (mark-other u q) ∙ one));
-          seen-in = λ j g t. mark-stays (to (J .structure) j) (seen-in′ j g t);
+          seen-in = λ j g t. mark-stays (edgeTo (J .structure) j) (seen-in′ j g t);
           counted = counted′;
         }

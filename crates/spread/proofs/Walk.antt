@@ -13,7 +13,7 @@ use Rattle.law.proofs.Bool.{split, clash, and-intro, and-left, and-right, and-n
 use Rattle.law.proofs.Bounded.{by-order, by-equal}
 use Rattle.job.specs.Job.{Job, Structure, size, owner}
 use Rattle.job.specs.Written.{IsJob, edgeCount}
-use Rattle.image.specs.Image.{from, to, leads, lastInto}
+use Rattle.image.specs.Image.{edgeFrom, edgeTo, leads, lastInto}
 use Rattle.spread.specs.Underway.{enough, outs, among, toldEdge, Underway, Spreading}
 use Rattle.spread.proofs.Chain.{last-le, last-leads, last-skips}
 use Rattle.spread.proofs.Queue.{set-marked, among-next, among-same, among-not}
@@ -29,48 +29,48 @@ module _ (J : Job) (n : ℕ) (told : ℕ → Bool) (t : ℕ) where
   M = J .structure
 
   abbrev ours : ℕ → Bool
-  ours j = eqb (owner J (from M j)) n
+  ours j = eqb (owner J (edgeFrom M j)) n
 
   abbrev pub seenFrom : ℕ → ℕ → Bool
-  seenFrom e j = ours j && (told (to M j) || (eqb t (to M j) && leb e j))
+  seenFrom e j = ours j && (told (edgeTo M j) || (eqb t (edgeTo M j) && leb e j))
 
   abbrev into : ℕ → ℕ → Bool
-  into e j = eqb t (to M j) && leb e j
+  into e j = eqb t (edgeTo M j) && leb e j
 
   -- an edge that is not into t is seen where its target is told; so is one before e
-  seen-apart : (e j : ℕ) → into e j ≡ false → seenFrom e j ≡ (ours j && told (to M j))
-  seen-apart e j f = ap (λ b. ours j && b) (ap (λ b. told (to M j) || b) f ∙ or-false (told (to M j)))
+  seen-apart : (e j : ℕ) → into e j ≡ false → seenFrom e j ≡ (ours j && told (edgeTo M j))
+  seen-apart e j f = ap (λ b. ours j && b) (ap (λ b. told (edgeTo M j) || b) f ∙ or-false (told (edgeTo M j)))
 
-  seen-elsewhere : (e j : ℕ) → (to M j ≡ t → ⊥) → seenFrom e j ≡ (ours j && told (to M j))
-  seen-elsewhere e j q = seen-apart e j (and-no-left (eqb t (to M j)) (leb e j) (ne-eqb t (to M j) (λ z. q (sym z))))
+  seen-elsewhere : (e j : ℕ) → (edgeTo M j ≡ t → ⊥) → seenFrom e j ≡ (ours j && told (edgeTo M j))
+  seen-elsewhere e j q = seen-apart e j (and-no-left (eqb t (edgeTo M j)) (leb e j) (ne-eqb t (edgeTo M j) (λ z. q (sym z))))
 
-  seen-before : (e j : ℕ) → j < e → seenFrom e j ≡ (ours j && told (to M j))
-  seen-before e j l = seen-apart e j (and-no-right (eqb t (to M j)) (leb e j) (lt-leb e j l))
+  seen-before : (e j : ℕ) → j < e → seenFrom e j ≡ (ours j && told (edgeTo M j))
+  seen-before e j l = seen-apart e j (and-no-right (eqb t (edgeTo M j)) (leb e j) (lt-leb e j l))
 
-  seen-from : (e j : ℕ) → to M j ≡ t → e ≤ j → seenFrom e j ≡ ours j
+  seen-from : (e j : ℕ) → edgeTo M j ≡ t → e ≤ j → seenFrom e j ≡ ours j
   seen-from e j q l =
       ap (λ b. ours j && b)
-      (or-right (told (to M j)) (into e j) (and-intro (eqb t (to M j)) (leb e j) (eq-eqb t (to M j) (sym q)) (le-leb e j l)))
+      (or-right (told (edgeTo M j)) (into e j) (and-intro (eqb t (edgeTo M j)) (leb e j) (eq-eqb t (edgeTo M j) (sym q)) (le-leb e j l)))
       ∙ and-true (ours j)
 
   -- an edge at or behind the last one below number k, and below k
-  chain-skips : (k j : ℕ) → j < k → seenFrom (lastInto J n t k) j ≡ (ours j && told (to M j))
+  chain-skips : (k j : ℕ) → j < k → seenFrom (lastInto J n t k) j ≡ (ours j && told (edgeTo M j))
   unfolding leads
   chain-skips k j l =
       let e = lastInto J n t k in
       split (ours j)
       (λ mine.
-      by-equal (to M j) t
+      by-equal (edgeTo M j) t
       (λ q.
       by-order j e (seen-before e j)
       (λ h.
-      clash (leads J n t j) (and-intro (ours j) (eqb (to M j) t) mine (eq-eqb (to M j) t q)) (last-skips J n t k j h l)))
+      clash (leads J n t j) (and-intro (ours j) (eqb (edgeTo M j) t) mine (eq-eqb (edgeTo M j) t q)) (last-skips J n t k j h l)))
       (seen-elsewhere e j))
-      (λ f. and-no-left (ours j) (told (to M j) || into e j) f ∙ sym (and-no-left (ours j) (told (to M j)) f))
+      (λ f. and-no-left (ours j) (told (edgeTo M j) || into e j) f ∙ sym (and-no-left (ours j) (told (edgeTo M j)) f))
 
   -- e is one more than an edge of the chain, unless it is 0
   abbrev pub OnChain : ℕ → Type 0
-  OnChain e = (e ≡ 0 → ⊥) → (e - 1 < edgeCount J) × (owner J (from M (e - 1)) ≡ n) × (to M (e - 1) ≡ t)
+  OnChain e = (e ≡ 0 → ⊥) → (e - 1 < edgeCount J) × (owner J (edgeFrom M (e - 1)) ≡ n) × (edgeTo M (e - 1) ≡ t)
 
   chain-on : (k : ℕ) → k ≤ edgeCount J → OnChain (lastInto J n t k)
   unfolding leads
@@ -80,14 +80,14 @@ module _ (J : Job) (n : ℕ) (told : ℕ → Bool) (t : ℕ) where
       let next : lastInto J n t k ≡ suc (e - 1) = omega arith in
       let is = last-leads J n t k (e - 1) next in (
         omega arith,
-        eqb-true (owner J (from M (e - 1))) n (and-left (ours (e - 1)) (eqb (to M (e - 1)) t) is),
-        eqb-true (to M (e - 1)) t (and-right (ours (e - 1)) (eqb (to M (e - 1)) t) is),
+        eqb-true (owner J (edgeFrom M (e - 1))) n (and-left (ours (e - 1)) (eqb (edgeTo M (e - 1)) t) is),
+        eqb-true (edgeTo M (e - 1)) t (and-right (ours (e - 1)) (eqb (edgeTo M (e - 1)) t) is),
       )
 
   -- all edges into t are seen at the end
-  seen-all : (j : ℕ) → seenFrom 0 j ≡ (ours j && (told (to M j) || eqb t (to M j)))
+  seen-all : (j : ℕ) → seenFrom 0 j ≡ (ours j && (told (edgeTo M j) || eqb t (edgeTo M j)))
   seen-all j =
-      ap (λ b. ours j && (told (to M j) || b)) (ap (λ b. eqb t (to M j) && b) (le-leb 0 j (omega arith)) ∙ and-true (eqb t (to M j)))
+      ap (λ b. ours j && (told (edgeTo M j) || b)) (ap (λ b. eqb t (edgeTo M j) && b) (le-leb 0 j (omega arith)) ∙ and-true (eqb t (edgeTo M j)))
 
 -- the states of a queue before its head
 abbrev toldBy : List ℕ → ℕ → ℕ → Bool
@@ -147,8 +147,8 @@ module _ {J : Job} {n : ℕ} {all : Bool} {before marks₀ counts₀ queue₀ : 
         underway =
             underway-same (at .underway) (toldEdge J n queue (head + 1))
             (λ j g.
-            let u = to (J .structure) j in
-            ap (λ b. eqb (owner J (from (J .structure) j)) n && b)
+            let u = edgeTo (J .structure) j in
+            ap (λ b. eqb (owner J (edgeFrom (J .structure) j)) n && b)
             (among-next (λ i. getD queue i 0) head u
             ∙ ap₂ _||_
             (among-same (λ i. getD queue i 0) (λ i. getD queue₀ i 0) head u (λ i h. at .queue-kept i (omega arith)))
@@ -164,10 +164,10 @@ module _ {J : Job} {n : ℕ} {all : Bool} {before marks₀ counts₀ queue₀ : 
     pub j-in : j < edgeCount J
     j-in = at .on-chain on .0
 
-    j-ours : owner J (from (J .structure) j) ≡ n
+    j-ours : owner J (edgeFrom (J .structure) j) ≡ n
     j-ours = at .on-chain on .1
 
-    j-target : to (J .structure) j ≡ t
+    j-target : edgeTo (J .structure) j ≡ t
     j-target = at .on-chain on .2
 
     abbrev seen : ℕ → Bool
@@ -176,20 +176,20 @@ module _ {J : Job} {n : ℕ} {all : Bool} {before marks₀ counts₀ queue₀ : 
     abbrev seen′ : ℕ → Bool
     seen′ = seenFrom J n told t (lastInto J n t j)
 
-    mine : eqb (owner J (from (J .structure) j)) n ≡ true
-    mine = eq-eqb (owner J (from (J .structure) j)) n j-ours
+    mine : eqb (owner J (edgeFrom (J .structure) j)) n ≡ true
+    mine = eq-eqb (owner J (edgeFrom (J .structure) j)) n j-ours
 
     new : seen j ≡ false
     new =
         seen-before J n told t e j (omega arith)
-        ∙ and-no-right (eqb (owner J (from (J .structure) j)) n) (told (to (J .structure) j)) (ap told j-target ∙ head-new)
+        ∙ and-no-right (eqb (owner J (edgeFrom (J .structure) j)) n) (told (edgeTo (J .structure) j)) (ap told j-target ∙ head-new)
 
     others : (i : ℕ) → i < edgeCount J → (i ≡ j → ⊥) → seen′ i ≡ seen i
     others i g q =
         by-order i j
         (λ less. chain-skips J n told t j i less ∙ sym (seen-before J n told t e i (omega arith)))
         (λ more.
-        by-equal (to (J .structure) i) t
+        by-equal (edgeTo (J .structure) i) t
         (λ p.
         let below : lastInto J n t j ≤ i = omega (arith, last-le J n t j) in
         seen-from J n told t (lastInto J n t j) i p below ∙ sym (seen-from J n told t e i p (omega arith)))
@@ -208,16 +208,16 @@ module _ {J : Job} {n : ℕ} {all : Bool} {before marks₀ counts₀ queue₀ : 
           target-marked = rw j-target (at .t-marked);
         }
 
-    pub walk-count : (s : ℕ) → s ≡ from (J .structure) j → getD counts s 0 ≤ 2048
+    pub walk-count : (s : ℕ) → s ≡ edgeFrom (J .structure) j → getD counts s 0 ≤ 2048
     walk-count s s-is = let few = job .edges .below in rw s-is (omega (arith, count-small one-more))
 
     -- whether the source joins
-    module _ (s : ℕ) (s-is : s ≡ from (J .structure) j) (r : Bool)
+    module _ (s : ℕ) (s-is : s ≡ edgeFrom (J .structure) j) (r : Bool)
         (r-is : r ≡ (eqb (getD marks s 0) 1 && enough all (outs (J .structure) s) (getD counts s 0 + 1))) where
       pub walk-room : r ≡ true → tail < 256
       walk-room joins = turn-room one-more (rw s-is at (sym r-is ∙ joins))
 
-      module _ (next : ℕ) (next-is : next ≡ lastInto J (owner J (from (J .structure) j)) (to (J .structure) j) j) where
+      module _ (next : ℕ) (next-is : next ≡ lastInto J (owner J (edgeFrom (J .structure) j)) (edgeTo (J .structure) j) j) where
         next-on : next ≡ lastInto J n t j
         next-on = next-is ∙ ap₂ (λ m u. lastInto J m u j) j-ours j-target
 
@@ -244,5 +244,5 @@ module _ {J : Job} {n : ℕ} {all : Bool} {before marks₀ counts₀ queue₀ : 
               longer = let g = at .longer in omega arith;
               queue-kept =
                   λ i g.
-                  getD-set-other queue tail i (from (J .structure) j) 0 (λ q. let h = at .longer in omega arith) ∙ at .queue-kept i g;
+                  getD-set-other queue tail i (edgeFrom (J .structure) j) 0 (λ q. let h = at .longer in omega arith) ∙ at .queue-kept i g;
             })

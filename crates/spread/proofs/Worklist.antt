@@ -18,7 +18,7 @@ use Rattle.job.specs.Written.{IsJob, edgeCount}
 use Rattle.job.proofs.Successors.{edge-listed}
 use Rattle.cells.specs.Fragment.{owns, inFragment}
 use Rattle.cells.proofs.FragmentLaws.{owns-owner, inner-owned, next-inside}
-use Rattle.image.specs.Image.{from, to}
+use Rattle.image.specs.Image.{edgeFrom, edgeTo}
 use Rattle.spread.specs.Spread.{spreadRule, Joinable, Spread}
 use Rattle.spread.specs.Underway.{enough, outs, seenOuts, among, inSet, toldEdge, Lists, Spreading}
 use Rattle.spread.proofs.Queue.{among-none, among-intro, among-found, set-marked}
@@ -35,8 +35,8 @@ unfolding toldEdge
 list-start {J} {n} {all} {marks} {queue} {tail} job long l =
     let none : (e : ℕ) → toldEdge J n queue 0 e ≡ false =
     λ e.
-    and-no-right (eqb (owner J (from (J .structure) e)) n) (among (λ i. getD queue i 0) 0 (to (J .structure) e))
-    (among-none (λ i. getD queue i 0) (to (J .structure) e))
+    and-no-right (eqb (owner J (edgeFrom (J .structure) e)) n) (among (λ i. getD queue i 0) 0 (edgeTo (J .structure) e))
+    (among-none (λ i. getD queue i 0) (edgeTo (J .structure) e))
     in
     let zero-at : (s : ℕ) → s < size J → getD (replicate {A = ℕ} 256 0) s 0 ≡ 0 =
     λ s g. getD-replicate 256 s 0 0 (let few = job .states .below in omega arith)
@@ -81,18 +81,18 @@ module _ {J : Job} {n : ℕ} {all : Bool} {before marks counts queue : List ℕ}
 
     -- of a state that the node owns every edge is the node's, and leads into its fragment
     into-fragment :
-        (s : ℕ) → owns J n s ≡ true → (e : ℕ) → e < edgeCount J → from (J .structure) e ≡ s
-        → inFragment J n (to (J .structure) e) ≡ true
-    unfolding from to edgeCount
-    into-fragment s o e l is = next-inside J n s (to (J .structure) e) o (edge-listed (J .structure) s e l is)
+        (s : ℕ) → owns J n s ≡ true → (e : ℕ) → e < edgeCount J → edgeFrom (J .structure) e ≡ s
+        → inFragment J n (edgeTo (J .structure) e) ≡ true
+    unfolding edgeFrom edgeTo edgeCount
+    into-fragment s o e l is = next-inside J n s (edgeTo (J .structure) e) o (edge-listed (J .structure) s e l is)
 
     seen-marked :
-        (s : ℕ) → owns J n s ≡ true → (e : ℕ) → e < edgeCount J → from (J .structure) e ≡ s
-        → toldEdge J n queue head e ≡ marked (to (J .structure) e)
+        (s : ℕ) → owns J n s ≡ true → (e : ℕ) → e < edgeCount J → edgeFrom (J .structure) e ≡ s
+        → toldEdge J n queue head e ≡ marked (edgeTo (J .structure) e)
     unfolding toldEdge
     seen-marked s o e l is =
-        ap₂ _&&_ (eq-eqb (owner J (from (J .structure) e)) n (ap (owner J) is ∙ owns-owner J n s o))
-        (told-marked (to (J .structure) e) (target-in J job e l) (into-fragment s o e l is))
+        ap₂ _&&_ (eq-eqb (owner J (edgeFrom (J .structure) e)) n (ap (owner J) is ∙ owns-owner J n s o))
+        (told-marked (edgeTo (J .structure) e) (target-in J job e l) (into-fragment s o e l is))
 
     closed : Inside (size J) (spreadRule (J .structure) (quantifier all) before marked) marked
     unfolding spreadRule
@@ -106,8 +106,8 @@ module _ {J : Job} {n : ℕ} {all : Bool} {before marks counts queue : List ℕ}
         let one = eqb-true (getD before s 0) 1 (and-left (eqb (getD before s 0) 1) (over (J .structure) (quantifier all) s marked) joins) in
         let o = and-right (eqb (getD before s 0) 1) (over (J .structure) (quantifier all) s marked) joins in
         let ours : owns J n s ≡ true = sym (inner-owned J job n s) ∙ joinable .inside s one in
-        let told : getD counts s 0 ≡ seenOuts (J .structure) (λ e. marked (to (J .structure) e)) s =
-        w .underway .counted s l ∙ seen-same J (toldEdge J n queue head) (λ e. marked (to (J .structure) e)) s (seen-marked s ours)
+        let told : getD counts s 0 ≡ seenOuts (J .structure) (λ e. marked (edgeTo (J .structure) e)) s =
+        w .underway .counted s l ∙ seen-same J (toldEdge J n queue head) (λ e. marked (edgeTo (J .structure) e)) s (seen-marked s ours)
         in
         clash (enough all (outs (J .structure) s) (getD counts s 0)) (rw told (over-enough J all marked s o)) (w .underway .waits s l (same ∙ one)))
         (or-cases (eqb (getD before s 0) 2) (eqb (getD before s 0) 1 && over (J .structure) (quantifier all) s marked) h))

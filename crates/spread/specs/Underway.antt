@@ -12,7 +12,7 @@ use Rattle.job.specs.Job.{Job, Structure, size, owner}
 use Rattle.job.specs.Rule.{quantifier}
 use Rattle.job.specs.Written.{edgeCount}
 use Rattle.cells.specs.Fragment.{inFragment}
-use Rattle.image.specs.Image.{from, to}
+use Rattle.image.specs.Image.{edgeFrom, edgeTo}
 use Rattle.spread.specs.Spread.{spreadRule}
 
 -- Whether that many told edges, of those out of a state, are all of them, or some.
@@ -22,10 +22,10 @@ enough false out told = ltb 0 told
 
 -- How many edges leave a state, and how many of those that were seen.
 unfoldable pub outs : Structure → ℕ → ℕ
-outs M s = count (λ e. eqb (from M e) s) (length (M .edges))
+outs M s = count (λ e. eqb (edgeFrom M e) s) (length (M .edges))
 
 unfoldable pub seenOuts : Structure → (ℕ → Bool) → ℕ → ℕ
-seenOuts M seen s = count (λ e. eqb (from M e) s && seen e) (length (M .edges))
+seenOuts M seen s = count (λ e. eqb (edgeFrom M e) s && seen e) (length (M .edges))
 
 -- s is among f 0, f 1, .., i of them.
 unfoldable pub among : (ℕ → ℕ) → ℕ → ℕ → Bool
@@ -46,7 +46,7 @@ inSet J n marks s = inFragment J n s && eqb (getD marks s 0) 2
 -- The edge is node n's, and leads into a state that the queue has before its head.
 unfoldable pub toldEdge : Job → ℕ → List ℕ → ℕ → ℕ → Bool
 toldEdge J n queue head e =
-    eqb (owner J (from (J .structure) e)) n && among (λ i. getD queue i 0) head (to (J .structure) e)
+    eqb (owner J (edgeFrom (J .structure) e)) n && among (λ i. getD queue i 0) head (edgeTo (J .structure) e)
 
 -- Of the edges that were seen each leads into the set, and they are counted at their sources.
 pub record Underway (J : Job) (n : ℕ) (all : Bool) (before : List ℕ) (seen : ℕ → Bool) (marks counts queue : List ℕ) (tail : ℕ)
@@ -60,7 +60,7 @@ pub record Underway (J : Job) (n : ℕ) (all : Bool) (before : List ℕ) (seen :
       → (getD marks s 0 ≡ getD before s 0)
       ⊎ ((getD marks s 0 ≡ 2) × (member (least (spreadRule (J .structure) (quantifier all) before) (size J)) s ≡ true))
   pub waits : (s : ℕ) → s < size J → getD marks s 0 ≡ 1 → enough all (outs (J .structure) s) (getD counts s 0) ≡ false
-  pub seen-in : (e : ℕ) → e < edgeCount J → seen e ≡ true → getD marks (to (J .structure) e) 0 ≡ 2
+  pub seen-in : (e : ℕ) → e < edgeCount J → seen e ≡ true → getD marks (edgeTo (J .structure) e) 0 ≡ 2
   pub counted : (s : ℕ) → s < size J → getD counts s 0 ≡ seenOuts (J .structure) seen s
 
 -- The states of the queue before its head are told: the node's edges into them are seen.

@@ -1,2 +1,3 @@
+pub mod ColumnLaws
 pub mod StaleLaws
 pub mod WorkedLaws

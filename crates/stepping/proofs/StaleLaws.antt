@@ -53,8 +53,8 @@ module _ {m : List ℕ} {t : Table} {n : ℕ} {stale news : List ℕ} (w : Resti
   abbrev J : Job
   J = jobOf m
 
-  pub column-small : (n < 8) × (k < 32)
-  column-small =
+  pub column-numbers : (n < 8) × (k < 32)
+  column-numbers =
       let node = w .node-in in
       let nodes = w .ready .lent .image .is-job .nodes .below in
       let subformulas = w .ready .lent .image .is-job .subformulas .below in
@@ -84,7 +84,7 @@ module _ {m : List ℕ} {t : Table} {n : ℕ} {stale news : List ℕ} (w : Resti
 
     pub column-marked : ColumnWorked J n k t stale news after (set stale (columnByte n k) 1) (set news k 1) r
     column-marked =
-        let (node, subformula) = column-small in
+        let (node, subformula) = column-numbers in
         record {
           leaves = leaves;
           stale-marked = mark-set t (columnByte n k) stale after (omega (arith, w .stale-long));

@@ -12,7 +12,7 @@ use Rattle.job.specs.Job.{Job, size, subformulaCount}
 use Rattle.job.specs.Written.{IsJob}
 use Rattle.cells.specs.Table.{Table, tableLength, isEmpty, cell, filled}
 use Rattle.cells.specs.Step.{stepColumn, stepUpTo, stepTable}
-use Rattle.cells.specs.Rest.{columnByte, Rested, Tracked, Same, Marks, BytesAre}
+use Rattle.cells.specs.Rest.{columnByte, Rested, Tracked, SameColumn, TellsChanges, BytesAre}
 use Rattle.cells.proofs.Grown.{stepColumn-grown, stepUpTo-grown}
 use Rattle.cells.proofs.Counts.{filled-same, filled-sum}
 use Rattle.cells.proofs.Local.{stepColumn-other}
@@ -64,7 +64,7 @@ pub record WorkedUpTo (J : Job) (n k : ℕ) (t : Table) (stale news : List ℕ) 
   pub rows-kept : (m j : ℕ) → j < 32 → (m ≡ n → ⊥) → getD stale′ (columnByte m j) 0 ≡ getD stale (columnByte m j) 0
   pub rested : Rested J n stale′ after
   pub news-long : length news′ ≡ length news
-  pub news-marked : Marks J n (λ j. j) news t news′ after
+  pub news-marked : TellsChanges J n (λ j. j) news t news′ after
 
 module _ {m : List ℕ} {t : Table} {n : ℕ} {stale news : List ℕ} (w : Resting m t n stale news) where
   abbrev J : Job
@@ -105,7 +105,7 @@ module _ {m : List ℕ} {t : Table} {n : ℕ} {stale news : List ℕ} (w : Resti
 
     -- column k is worked
     module _ (l : k < subformulaCount J) {v : Table} {stale″ news″ : List ℕ} {r : ℕ} (turn : ColumnWorked J n k u stale′ news′ v stale″ news″ r) where
-      others-same : (j : ℕ) → j < subformulaCount J → (j ≡ k → ⊥) → Same J n j u v
+      others-same : (j : ℕ) → j < subformulaCount J → (j ≡ k → ⊥) → SameColumn J n j u v
       others-same j h apart s b =
           ap (λ x. cell J x n s j) (turn .leaves .table-is) ∙ stepColumn-other J n k u n s j h apart
 

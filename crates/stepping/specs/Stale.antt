@@ -6,7 +6,7 @@ use lib.ListN.{length, getD}
 use Rattle.job.specs.Job.{Job}
 use Rattle.cells.specs.Table.{Table}
 use Rattle.cells.specs.Step.{stepColumn, stepTable}
-use Rattle.cells.specs.Rest.{columnByte, Rested, Marks, Mark}
+use Rattle.cells.specs.Rest.{columnByte, Rested, TellsChanges, Mark}
 use Rattle.image.specs.Image.{jobOf}
 use Rattle.table.specs.Lent.{Ready}
 use Rattle.table.specs.Filling.{Leaves}
@@ -34,4 +34,4 @@ pub record Worked (J : Job) (n : ℕ) (t : Table) (stale news : List ℕ) (after
   pub row-clear : (k : ℕ) → k < 32 → getD stale′ (columnByte n k) 0 ≡ 0
   pub rows-kept : (m k : ℕ) → k < 32 → (m ≡ n → ⊥) → getD stale′ (columnByte m k) 0 ≡ getD stale (columnByte m k) 0
   pub news-long : length news′ ≡ length news
-  pub news-marked : Marks J n (λ k. k) news t news′ after
+  pub news-marked : TellsChanges J n (λ k. k) news t news′ after

@@ -8,7 +8,7 @@ ghost use Rattle.cells.specs.Rest.{columnByte, isStale, bears as bearsOn, Reste
 ghost use Rattle.image.specs.Image.{jobOf};
 ghost use Rattle.table.specs.Lent.{Ready};
 ghost use Rattle.stepping.specs.Stale.{Resting, ColumnWorked, Worked};
-use columns::column::step_column;
+use crate::column::step_column;
 use image::image::Image;
 use image::image::subformula;
 use image::image::subformulas;
@@ -56,10 +56,11 @@ fn work_column(
         (now (table .exit)) (now (stale .exit)) (now (news .exit)) r
         ⌝ }
 {
-    if !bears(stale, n, k, rule_of(subformula(m, k))) {
+    let rule = rule_of(subformula(m, k));
+    if !bears(stale, n, k, rule) {
         return 0;
     }
-    let filled = step_column(m, table, n, k);
+    let filled = step_column(m, table, n, k, rule);
     if filled == 0 {
         return 0;
     }

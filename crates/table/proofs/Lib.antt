@@ -1,5 +1,4 @@
 pub mod Parts
 pub mod FillingLaws
 pub mod CellLaws
-pub mod RightLaws
 pub mod FillingLoops

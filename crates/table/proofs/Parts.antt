@@ -18,7 +18,7 @@ use Rattle.cells.specs.Fragment.{inFragment}
 use Rattle.cells.specs.Table.{Table, tableLength, nodeOf, stateOf, subformulaOf, cell, isEmpty, inside, fill, filled}
 use Rattle.cells.proofs.Index.{nodeOf-lt, stateOf-lt, subformulaOf-lt}
 use Rattle.cells.proofs.Fill.{is-empty, not-empty, fill-length, fill-filled, fill-outside, fill-new, fill-cell-left, fill-same-cells, fill-idle-cells}
-use Rattle.cells.proofs.Grown.{Grown, fill-grown}
+use Rattle.cells.proofs.Grown.{fill-grown}
 use Rattle.cells.proofs.Counts.{filled-sum, filled-same, filled-none}
 use Rattle.image.specs.Image.{jobOf}
 use Rattle.table.specs.Lent.{Lent, IsCell}
@@ -140,10 +140,6 @@ module _ (J : Job) (t : Table) (keep : Cells) (new : Values) (u : Table) (told :
   unfolding part
   leaves-long = ap length (l .table-is) ∙ fill-length J _ t
 
-  pub leaves-grown : Grown J t u
-  unfolding part
-  leaves-grown = rw (l .table-is) (fill-grown J _ t)
-
   -- It has the cells that are not kept as they were.
   pub leaves-others : (m s j : ℕ) → s < size J → j < subformulaCount J → keep m s j ≡ false → cell J u m s j ≡ cell J t m s j
   unfolding part
@@ -178,8 +174,3 @@ module _ (m : List ℕ) (t : Table) (lent : Lent m t) where
   module _ (keep : Cells) (new : Values) (u : Table) (told : ℕ) (l : Leaves t (part (jobOf m) keep new t) u told) where
     pub leaves-lent : Lent m u
     leaves-lent = record { image = lent .image; long = leaves-long (jobOf m) t keep new u told l ∙ lent .long }
-
--- The same by what a whole call leaves: a table grown from the one before, and right where that was.
-module _ (m : List ℕ) (t u : Table) (g : Grown (jobOf m) t u) where
-  pub grown-lent : Lent m t → Lent m u
-  grown-lent lent = record { image = lent .image; long = g .long ∙ lent .long }

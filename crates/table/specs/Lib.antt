@@ -1,3 +1,3 @@
 pub mod Lent
 pub mod Filling
-pub mod Right
+pub mod Column

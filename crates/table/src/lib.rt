@@ -1,3 +1,3 @@
-// One cell of a table that is lent beside an image: where it stands, what it holds, filling it; and question 10, which is about all of them.
+// A table that is lent: emptying it, and beside an image one cell of it, where it stands, what it holds, filling it.
 pub mod cell;
-pub mod right;
+pub mod clear;

@@ -13,14 +13,14 @@ use Rattle.law.proofs.Bool.{and-left, and-right, and-no-right, cond-false}
 use Rattle.law.proofs.Bounded.{by-order, by-equal}
 use Rattle.text.proofs.FieldLaws.{digit-range}
 use Rattle.text.specs.Field.{isDigit, digits, columns}
-use Rattle.text.specs.Decimal.{column, decimal}
+use Rattle.text.specs.Decimal.{digitColumn, decimal}
 use Rattle.text.specs.declared.field.Field.{Field}
 use Rattle.text.specs.declared.field.Field.the-variants.{Number, Malformed}
 
 -- The last k columns of n; the column before them has the weight 10 ^ k.
 tail : ℕ → ℕ → List ℕ
 tail n zero = []
-tail n (suc k) = column n (10 ^ k) ∷ tail n k
+tail n (suc k) = digitColumn n (10 ^ k) ∷ tail n k
 
 weight-pos : (k : ℕ) → 0 < 10 ^ k
 weight-pos k = one-le-pow k 10 (omega arith)
@@ -29,18 +29,18 @@ weight-next : (n k : ℕ) → n / 10 ^ suc k ≡ n / 10 ^ k / 10
 weight-next n k = rw pow-suc (sym (div-div-eq-div-mul n (10 ^ k) 10))
 
 -- What stands in a column: a space above the number's digits, else a digit.
-column-space : (n k : ℕ) → n < 10 ^ suc k → column n (10 ^ suc k) ≡ 32
-unfolding column
+column-space : (n k : ℕ) → n < 10 ^ suc k → digitColumn n (10 ^ suc k) ≡ 32
+unfolding digitColumn
 column-space n k h =
     let more : 10 ^ suc k ≡ 1 → ⊥ = λ e. omega (arith, weight-pos k, pow-suc 10 k) in
     simp (lt-ltb n (10 ^ suc k) h, ne-eqb (10 ^ suc k) 1 more)
 
-column-last : (n : ℕ) → column n (10 ^ 0) ≡ 48 + n / 10 ^ 0 % 10
-unfolding column
+column-last : (n : ℕ) → digitColumn n (10 ^ 0) ≡ 48 + n / 10 ^ 0 % 10
+unfolding digitColumn
 column-last n = cond-false (ltb n 1 && false) 32 (48 + n / 1 % 10) (and-no-right (ltb n 1) false refl)
 
-column-digit : (n k : ℕ) → 0 < n / 10 ^ k → column n (10 ^ k) ≡ 48 + n / 10 ^ k % 10
-unfolding column
+column-digit : (n k : ℕ) → 0 < n / 10 ^ k → digitColumn n (10 ^ k) ≡ 48 + n / 10 ^ k % 10
+unfolding digitColumn
 column-digit n k h =
     by-order n (10 ^ k)
     (λ l. absurd (omega (arith, div-eq-of-lt l)))
@@ -59,19 +59,19 @@ number-if false x w e = no-number w e
 
 -- the column of weight 10 ^ k, read as the next digit, as a space, as the first digit
 module _ (n k : ℕ) (cs : List ℕ) where
-  digits-next : 0 < n / 10 ^ suc k → digits (n / 10 ^ suc k) (column n (10 ^ k) ∷ cs) ≡ digits (n / 10 ^ k) cs
+  digits-next : 0 < n / 10 ^ suc k → digits (n / 10 ^ suc k) (digitColumn n (10 ^ k) ∷ cs) ≡ digits (n / 10 ^ k) cs
   unfolding digits
   digits-next h =
       let up = weight-next n k in
-      let c : column n (10 ^ k) ≡ 48 + n / 10 ^ k % 10 = column-digit n k (omega arith) in
+      let c : digitColumn n (10 ^ k) ≡ 48 + n / 10 ^ k % 10 = column-digit n k (omega arith) in
       simp (c, digit-is (48 + n / 10 ^ k % 10) (omega arith) (omega arith), ne-eqb (n / 10 ^ suc k) 0 (λ e. omega arith))
       (ap (λ (v : ℕ). digits v cs) (omega arith))
 
-  columns-space : n < 10 ^ suc k → columns (column n (10 ^ suc k) ∷ cs) ≡ columns cs
+  columns-space : n < 10 ^ suc k → columns (digitColumn n (10 ^ suc k) ∷ cs) ≡ columns cs
   unfolding columns
   columns-space h = simp (column-space n k h)
 
-  columns-first : n < 10 ^ suc k → column n (10 ^ k) ≡ 48 + n / 10 ^ k % 10 → columns (column n (10 ^ k) ∷ cs) ≡ digits (n / 10 ^ k) cs
+  columns-first : n < 10 ^ suc k → digitColumn n (10 ^ k) ≡ 48 + n / 10 ^ k % 10 → columns (digitColumn n (10 ^ k) ∷ cs) ≡ digits (n / 10 ^ k) cs
   unfolding columns
   columns-first h c =
       let low : n / 10 ^ k < 10 = div-lt-iff-lt-mul (weight-pos k) .1 (omega (arith, pow-suc 10 k)) in
@@ -100,7 +100,7 @@ columns-decimal n h = columns-tail 4 n h
 
 -- Columns read as a number w are its columns: v, the number read before them, is what w has above their weight.
 digits-back : (k v w : ℕ) (cs : List ℕ) → length cs ≡ k → digits v cs ≡ Number w
-    → (w / 10 ^ k ≡ v) × (cs ≡ tail w k) × (column w (10 ^ k) ≡ 48 + w / 10 ^ k % 10)
+    → (w / 10 ^ k ≡ v) × (cs ≡ tail w k) × (digitColumn w (10 ^ k) ≡ 48 + w / 10 ^ k % 10)
 unfolding digits tail
 digits-back zero v w [] l e = (div-one w ∙ cc, refl, column-last w)
 digits-back zero v w (c ∷ cs) l e = absurd (omega arith)

@@ -3,12 +3,12 @@ ghost use mathlib.Core.Path.{_≡_};
 ghost use Prim.Native.Nat.{_+_, _*_, _<_, _≤_};
 ghost use lib.ListN.{length};
 ghost use lib.Seq.{sets};
-ghost use Rattle.text.specs.Decimal.{column, decimal, line, Short};
+ghost use Rattle.text.specs.Decimal.{digitColumn, decimal, line, Short};
 
 // The byte in the column of weight p: a space before the number, or its digit.
 fn digit(n: usize, p: usize) -> u8
     requires { ⌜ (0 < p) × (n < 100000) ⌝ }
-    ensures { λ r. ⌜ r ≡ column n p ⌝ }
+    ensures { λ r. ⌜ r ≡ digitColumn n p ⌝ }
 {
     if p == 1 {
         return 48 + (n / p % 10) as u8;

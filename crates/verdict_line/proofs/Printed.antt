@@ -2,7 +2,7 @@
 use mathlib.Core.Path.{_≡_, refl}
 use mathlib.Core.List.{List, [], _∷_, map}
 use Prim.Native.String.{String}
-use Rattle.text.specs.Decimal.{line, decimal, column}
+use Rattle.text.specs.Decimal.{line, decimal, digitColumn}
 use Rattle.cells.specs.Cases.{bytes, jobV, job2, job3, job4, job6, job10}
 use Rattle.cells.proofs.Printed.{printed}
 use Rattle.verdict_line.specs.VerdictLine.{verdictLine}
@@ -23,5 +23,5 @@ said =
     ∷ []
 
 pub printed-lines : map (λ j. verdictLine (bytes j)) jobs ≡ map bytes said
-unfolding printed verdictLine line decimal column
+unfolding printed verdictLine line decimal digitColumn
 printed-lines = refl

@@ -25,7 +25,7 @@ use Rattle.job.specs.Read.{header, headAnswer, readAnswer, readTold}
 use Rattle.job.specs.Leaves.{Fits}
 use Rattle.job.specs.Job.{Job, decode, size}
 use Rattle.job.specs.Written.{IsJob}
-use Rattle.job.specs.declared.reader.Header.{Header}
+use Rattle.job.specs.declared.reading.Header.{Header}
 use Rattle.job.proofs.QuestionLaws.{refused-not-accepted, by-refusal, refusal-has, refusal-first, answered-none, answered-some, accepted-none}
 use Rattle.job.proofs.LayoutLaws.{head-fits}
 use Rattle.job.proofs.Exact.{decode-is-job}

@@ -9,9 +9,9 @@ use Rattle.job.specs.Layout.{states, subformulas, nodes}
 use Rattle.job.specs.Job.{decode}
 use Rattle.job.specs.Answer.{Answer, accepted, refused}
 use Rattle.job.specs.Read.{readAnswer, readTold, headAnswer}
-use Rattle.job.specs.declared.reader.Header.{Header}
-use Rattle.job.specs.declared.reader.Reading.the-variants.{Accepted, Refused}
-use Rattle.job.specs.declared.reader.Refusal.{Refusal}
+use Rattle.job.specs.declared.reading.Header.{Header}
+use Rattle.job.specs.declared.reading.Reading.the-variants.{Accepted, Refused}
+use Rattle.job.specs.declared.reading.Refusal.{Refusal}
 use Rattle.job.proofs.QuestionLaws.{refused-not-accepted}
 use Rattle.job.proofs.LayoutLaws.{head-fits}
 use Rattle.job.proofs.ReadLaws.{read-head-refused, product-small, decode-length}
@@ -32,13 +32,13 @@ module _ (x : Text) (h : Header) (told : readTold (Accepted h) ≡ headAnswer x)
       sym (ap₂ _*_ (ap₂ _*_ (nodes-are ∙ fits .nodes-are) (states-are ∙ fits .states-are)) (subformulas-are ∙ fits .subformulas-are))
 
 -- line 1 is refused: the text is not accepted
-pub head-refused :
+pub size-refused :
     (x : Text) (own : List ℕ) (why : Refusal)
     → readTold (Refused why) ≡ headAnswer x
     → accepted own ≡ readAnswer x
     → ⊥
 unfolding readTold
-head-refused x own why told read =
+size-refused x own why told read =
     refused-not-accepted own (why .number) (why .line) 4 (read ∙ sym (read-head-refused x (why .number) (why .line) told))
 
 -- the answer of a call on a table of the job's length, if the text is accepted, whatever the table else

@@ -3,15 +3,15 @@ ghost use mathlib.Core.Path.{_≡_};
 ghost use Prim.Native.Nat.{_≤_};
 ghost use lib.ListN.{length, replicate};
 ghost use Rattle.text.specs.Decimal.{line, Short};
-ghost use Rattle.job.specs.Answer.{numbers};
 ghost use Rattle.cells.specs.Calls.{Call, answer};
 ghost use Rattle.calls.specs.Told.{finishTold};
 ghost use Rattle.verdict_line.specs.VerdictLine.{verdictLine};
 ghost use Rattle.verdict_line.specs.Leaves.{TableSize};
 use calls::finish::Finished;
 use calls::finish::finish;
-use job::layout::head;
-use job::reader::Reading;
+use job::reading::Reading;
+use layout::head::head;
+use numbers::answers::of_finish;
 use text::decimal::write_line;
 
 // How many cells the table for a text has, if the text is accepted: by line 1 alone, which finish reads again with the rest.
@@ -44,17 +44,6 @@ fn line_of(numbers: [usize; 5]) -> [u8; 26]
     out
 }
 
-// The line for finish's answer.
-fn said(done: Finished) -> [u8; 26]
-    requires { ⌜ Short (numbers (finishTold done)) ⌝ }
-    ensures { λ r. ⌜ r ≡ line (numbers (finishTold done)) ⌝ }
-{
-    match done {
-        Finished::Accepted(o) => line_of([0, 0, o.verdict as usize, o.rounds, o.cells]),
-        Finished::Refused(why) => line_of([why.number as usize, why.line, 0, 0, 0]),
-    }
-}
-
 // The line for a text.
 pub fn verdict_line(text: &[u8]) -> [u8; 26]
     ensures { λ r. ⌜ r ≡ verdictLine (now (text .entry)) ⌝ }
@@ -62,5 +51,5 @@ pub fn verdict_line(text: &[u8]) -> [u8; 26]
     let size = table_size(text);
     let mut cells = [2u8; 65536];
     let done = finish_part(text, &mut cells, size);
-    said(done)
+    line_of(of_finish(done))
 }

@@ -6,7 +6,8 @@ use Rattle.closing.specs.Closed.{constant}
 use Rattle.table.specs.Filling.{Filling}
 use Rattle.table.proofs.Parts.{leaves-long}
 use Rattle.table.proofs.FillingLoops.{filling-start, filling-cell, filling-turn, filling-over}
-use borrow.Author.Needs.{needs}
+use borrow.Author.Needs.{fits-under}
+use mir.Syntax.{w64}
 use native.Mathlib.Omega.{arith}
 use Rattle.closing.proofs.close_node.Statement.{statement}
 use Rattle.closing.proofs.close_node.Tie as tie
@@ -39,7 +40,7 @@ loop-again c =
     let l = p .before .before .loop in
     let s = p .before .before .before .before .before in
     let below : l .i < fragmentSize (jobOf (s .args .m .now)) (s .args .n) = omega (arith, l .inv .1) in (
-      search needs,
+      omega arith,
       l .inv .1,
       filling-turn (s .args .m .now) (s .args .table .now) (s .pre .0) (constant (s .args .v)) (s .args .n) (s .args .k) (l .i) (l .table)
           (l .filled) (l .inv .2) below _ (p .fragment-state .ensures .0) (s .args .v) _ _ refl (c .before .before .put .ensures),
@@ -58,5 +59,17 @@ returns c =
 
 pub close-node-spec : {M : Type 1} → statement M
 close-node-spec =
-    let first = tie.spec Inv-loop μ-loop (λ c κs. search needs) loop-holds (λ c κs. search needs) put-requires add-filled (λ c. search needs) in
-    tie.close (first (λ c. search needs) loop-again same-length returns)
+    tie.close
+    (tie.spec
+    Inv-loop
+    μ-loop
+    (λ c κs. let pre = c .before .pre in (pre .0 .image, pre .1 .0))
+    loop-holds
+    (λ c κs. let pre = c .before .before .before .before .pre in (pre .0 .image, (pre .1 .0, omega (arith, c .before .loop .inv .1))))
+    put-requires
+    add-filled
+    (λ c. let few = c .before .before .before .before .before .before .before .fragment-size .ensures .1 in fits-under w64 _ 257 (omega arith) tt)
+    (λ c. omega arith)
+    loop-again
+    same-length
+    returns)

@@ -8,7 +8,7 @@ use Rattle.cells.specs.Table.{isEmpty, ownerCell}
 use Rattle.cells.specs.Close.{open?}
 use Rattle.cells.proofs.Fill.{not-empty}
 use Rattle.image.specs.Image.{jobOf}
-use Rattle.closing.proofs.ClosingLaws.{open-here, open-nowhere, smallest-is, smallest-none}
+use Rattle.closing.proofs.ClosingLaws.{open-here, open-nowhere, smallest-open-is, smallest-none}
 use borrow.Author.Needs.{needs}
 use native.Mathlib.Omega.{arith}
 use Rattle.closing.proofs.smallest_open.Statement.{statement}
@@ -73,7 +73,7 @@ returns : tie.Need-returns Inv-loop2 μ-loop2 Inv-loop μ-loop Inv-search μ-sea
 returns c =
     let l = c .before .before .before .before .before .before .loop in
     let r = c .before .before .before .loop2 in
-    smallest-is _ _ (l .k) (omega (arith, l .inv .1)) (l .inv .2)
+    smallest-open-is _ _ (l .k) (omega (arith, l .inv .1)) (l .inv .2)
     (open-here _ _ (r .s) (l .k) (omega (arith, r .inv .1)) (sym (c .before .owner-cell .ensures) ∙ c .if1 .taken))
 
 returns-2 : tie.Need-returns-2 Inv-loop2 μ-loop2 Inv-loop μ-loop Inv-search μ-search

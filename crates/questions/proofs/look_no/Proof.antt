@@ -8,7 +8,7 @@ use Rattle.job.specs.Job.{size, subformulaCount}
 use Rattle.cells.specs.Calls.{ownQuestions}
 use Rattle.image.specs.Image.{jobOf}
 use Rattle.table.specs.Lent.{Ready}
-use Rattle.questions.proofs.NoLaws.{table-first, table-ready, look-asked, read-no, read-yes, numbers-in, outside, within}
+use Rattle.questions.proofs.NoLaws.{table-first, table-ready, look-number, read-no, read-yes, numbers-in, out-of-fragment, in-fragment}
 use borrow.Author.Needs.{needs}
 use native.Mathlib.Omega.{arith}
 use Rattle.questions.proofs.look_no.Statement.{statement}
@@ -29,7 +29,7 @@ returns-2 c =
     let start = c .before .before .before .before .before .before in
     let J = jobOf (start .args .m .now) in
     let many = c .before .nodes .ensures in
-    sym (look-asked (ready-here (c .before .before .before)) _ _ _ ∙ simp (read-no J _ _ (c .before .before .node-read .ensures) (omega arith) (omega arith)))
+    sym (look-number (ready-here (c .before .before .before)) _ _ _ ∙ simp (read-no J _ _ (c .before .before .node-read .ensures) (omega arith) (omega arith)))
 
 -- behind 11
 module _ (c : tie.Else2) where
@@ -45,7 +45,7 @@ module _ (c : tie.Else2) where
 returns-3 : tie.Need-returns-3
 returns-3 c =
     let e = c .before .before in
-    sym (look-asked (ready-here (e .before .before .before)) _ _ _ ∙ simp (yes-11 e, sym (c .before .are-in .ensures) ∙ not-true _ (c .if3 .taken)))
+    sym (look-number (ready-here (e .before .before .before)) _ _ _ ∙ simp (yes-11 e, sym (c .before .are-in .ensures) ∙ not-true _ (c .if3 .taken)))
 
 -- behind 12
 module _ (c : tie.Else3) where
@@ -69,7 +69,7 @@ returns-4 c =
     let f = c .before .before in
     let node-is = e .before .before .node-read .ensures in
     let place-is = rw node-is at (c .before .place .ensures) in
-    sym (look-asked (ready-here (e .before .before .before)) _ _ _ ∙ simp (yes-11 e, yes-12 f, outside _ _ _ _ place-is (c .if4 .taken)))
+    sym (look-number (ready-here (e .before .before .before)) _ _ _ ∙ simp (yes-11 e, yes-12 f, out-of-fragment _ _ _ _ place-is (c .if4 .taken)))
 
 returns-5 : tie.Need-returns-5
 returns-5 c =
@@ -77,7 +77,7 @@ returns-5 c =
     let f = c .before .before in
     let node-is = e .before .before .node-read .ensures in
     let place-is = rw node-is at (c .before .place .ensures) in
-    sym (look-asked (ready-here (e .before .before .before)) _ _ _ ∙ simp (yes-11 e, yes-12 f, within _ _ _ _ place-is (c .if4 .left)))
+    sym (look-number (ready-here (e .before .before .before)) _ _ _ ∙ simp (yes-11 e, yes-12 f, in-fragment _ _ _ _ place-is (c .if4 .left)))
 
 pub look-no-spec : {M : Type 1} → statement M
 look-no-spec =

@@ -4,7 +4,7 @@ use mathlib.Core.Path.{sym, _∙_}
 use borrow.Author.Tests.{lt-ltb, le-ltb}
 use Rattle.cells.specs.Calls.{ownQuestions}
 use Rattle.image.specs.Image.{jobOf}
-use Rattle.questions.proofs.NoLaws.{table-first, table-ready, step-asked}
+use Rattle.questions.proofs.NoLaws.{table-first, table-ready, step-number}
 use Rattle.table.specs.Lent.{Ready}
 use borrow.Author.Needs.{needs}
 use native.Mathlib.Omega.{arith}
@@ -25,13 +25,13 @@ returns-2 : tie.Need-returns-2
 returns-2 c =
     let start = c .before .before .before .before .before in
     let over : jobOf (start .args .m .now) .nodes ≤ start .args .node = omega arith in
-    sym (step-asked (ready-here (c .before .before)) _ ∙ simp (le-ltb _ _ over))
+    sym (step-number (ready-here (c .before .before)) _ ∙ simp (le-ltb _ _ over))
 
 returns-3 : tie.Need-returns-3
 returns-3 c =
     let start = c .before .before .before .before .before in
     let under : start .args .node < jobOf (start .args .m .now) .nodes = omega arith in
-    sym (step-asked (ready-here (c .before .before)) _ ∙ simp (lt-ltb _ _ under))
+    sym (step-number (ready-here (c .before .before)) _ ∙ simp (lt-ltb _ _ under))
 
 pub step-no-spec : {M : Type 1} → statement M
 step-no-spec = tie.close (tie.spec (λ c κs. search needs) returns (λ c κs. search needs) returns-2 returns-3)

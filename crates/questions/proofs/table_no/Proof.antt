@@ -7,7 +7,7 @@ use lib.ListN.{length}
 use Rattle.cells.specs.Table.{tableLength}
 use Rattle.image.specs.Image.{jobOf}
 use Rattle.table.specs.Lent.{Lent}
-use Rattle.questions.proofs.NoLaws.{length-is, table-asked}
+use Rattle.questions.proofs.NoLaws.{length-is, table-number}
 use borrow.Author.Needs.{needs}
 use native.Mathlib.Omega.{arith}
 use Rattle.questions.proofs.table_no.Statement.{statement}
@@ -35,7 +35,7 @@ module _ (c : tie.After-subformulas) where
 returns : tie.Need-returns
 returns c =
     let t = start-of (c .before) .args .table .now in
-    sym (table-asked _ _ ∙ simp (ne-eqb (length t) _ (λ e. c .if1 .taken (e ∙ sym (wanted (c .before))))))
+    sym (table-number _ _ ∙ simp (ne-eqb (length t) _ (λ e. c .if1 .taken (e ∙ sym (wanted (c .before))))))
 
 -- it has that
 lent-here : (c : tie.Else1) → Lent (start-of (c .before) .args .m .now) (start-of (c .before) .args .table .now)
@@ -47,12 +47,12 @@ cells-right-requires c κs = lent-here c
 returns-2 : tie.Need-returns-2
 returns-2 c =
     let lent = lent-here (c .before .before) in
-    sym (table-asked _ _ ∙ simp (eq-eqb _ _ (lent .long), sym (c .before .cells-right .ensures) ∙ not-true _ (c .if2 .taken)))
+    sym (table-number _ _ ∙ simp (eq-eqb _ _ (lent .long), sym (c .before .cells-right .ensures) ∙ not-true _ (c .if2 .taken)))
 
 returns-3 : tie.Need-returns-3
 returns-3 c =
     let lent = lent-here (c .before .before) in
-    sym (table-asked _ _ ∙ simp (eq-eqb _ _ (lent .long), sym (c .before .cells-right .ensures) ∙ not-false _ (c .if2 .left)))
+    sym (table-number _ _ ∙ simp (eq-eqb _ _ (lent .long), sym (c .before .cells-right .ensures) ∙ not-false _ (c .if2 .left)))
 
 pub table-no-spec : {M : Type 1} → statement M
 table-no-spec =

@@ -1,9 +1,9 @@
 -- `table_size`: line 1's product, or none.
 use mathlib.Core.Path.{_≡_, sym, ap, _∙_}
 use Rattle.job.specs.Read.{readTold, headAnswer}
-use Rattle.job.specs.declared.reader.Header.{Header}
-use Rattle.job.specs.declared.reader.Reading.the-variants.{Accepted}
-use Rattle.verdict_line.proofs.TableLaws.{head-small, head-length, head-refused}
+use Rattle.job.specs.declared.reading.Header.{Header}
+use Rattle.job.specs.declared.reading.Reading.the-variants.{Accepted}
+use Rattle.verdict_line.proofs.TableLaws.{head-small, head-length, size-refused}
 use native.Mathlib.Omega.{arith}
 use borrow.Author.Needs.{needs}
 use Rattle.verdict_line.proofs.table_size.Statement.{statement}
@@ -13,7 +13,7 @@ returns : tie.Need-returns
 returns c =
     record {
       small = omega arith;
-      right = λ own read. absurd (head-refused _ own _ (sym (ap readTold (c .enum-told .given .1)) ∙ c .before .before .head .ensures) read);
+      right = λ own read. absurd (size-refused _ own _ (sym (ap readTold (c .enum-told .given .1)) ∙ c .before .before .head .ensures) read);
     }
 
 abbrev header-of : tie.After-known-told → Header

@@ -7,7 +7,6 @@ use Rattle.job.specs.Job.{decode}
 use Rattle.job.specs.Answer.{numbers}
 use Rattle.cells.specs.Table.{tableLength}
 use Rattle.cells.specs.Calls.{finish, answer}
-use Rattle.calls.specs.Told.{finishTold}
 use Rattle.verdict_line.specs.VerdictLine.{verdictLine}
 use Rattle.verdict_line.proofs.TableLaws.{any-table}
 use Rattle.verdict_line.proofs.ShortLaws.{answer-short}
@@ -19,20 +18,23 @@ finish-part-requires : tie.Need-finish-part-requires
 finish-part-requires c κs =
     (subst (λ n. c .before .table-size .result ≤ n) (sym (length-replicate {A = ℕ} 65536 2)) (c .before .table-size .ensures .small), refl)
 
-answer-here :
-    (c : tie.After-finish-part)
-    → let x = c .before .before .before .before .args .text .now in
-    finishTold (c .finish-part .result) ≡ answer finish x (replicate (tableLength (decode x)) 2)
-answer-here c =
-    c .finish-part .ensures
-    ∙ any-table finish _ _ _ (λ own read. ap (λ n. replicate n 2) (c .before .before .table-size .ensures .right own read))
+numbers-here :
+    (c : tie.After-of-finish)
+    → let x = c .before .before .before .before .before .before .args .text .now in
+    c .of-finish .result ≡ numbers (answer finish x (replicate (tableLength (decode x)) 2))
+numbers-here c =
+    let done = c .before .before in
+    c .of-finish .ensures
+    ∙ ap numbers
+    (done .finish-part .ensures
+    ∙ any-table finish _ _ _ (λ own read. ap (λ n. replicate n 2) (done .before .before .table-size .ensures .right own read)))
 
-said-requires : tie.Need-said-requires
-said-requires c κs = subst (λ a. Short (numbers a)) (sym (answer-here (c .before))) (answer-short _)
+line-of-requires : tie.Need-line-of-requires
+line-of-requires c κs = subst Short (sym (numbers-here c)) (answer-short _)
 
 returns : tie.Need-returns
 unfolding verdictLine
-returns c = c .said .ensures ∙ ap (λ a. line (numbers a)) (answer-here (c .before .before))
+returns c = c .line-of .ensures ∙ ap line (numbers-here (c .before))
 
 pub verdict-line-spec : {M : Type 1} → statement M
 verdict-line-spec =
@@ -41,5 +43,6 @@ verdict-line-spec =
     (λ c κs. search needs)
     (λ c. search needs)
     finish-part-requires
-    said-requires
+    (λ c κs. search needs)
+    line-of-requires
     returns)

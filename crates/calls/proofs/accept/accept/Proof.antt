@@ -1,72 +1,67 @@
 -- `accept`: the head of every call, and filling one cell.
 use Prim.Native.Nat.{ℕ}
-use mathlib.Core.Path.{_≡_, refl, sym, ap, _∙_}
+use mathlib.Core.Path.{_≡_, refl, ap, _∙_}
 use mathlib.Core.List.{List, [], _∷_}
-use Rattle.job.specs.Read.{readTold, readAnswer}
-use Rattle.job.specs.declared.reader.Reading.the-variants.{Accepted}
-use Rattle.cells.specs.Calls.{Call, width, told, left, answer, after}
-use Rattle.cells.proofs.CallLaws.{reading-refused}
-use Rattle.calls.specs.Told.{acceptTold}
-use Rattle.calls.proofs.HeadLaws.{head-refused, head-accepted}
+use mathlib.Core.Bool.{true}
+use Rattle.text.specs.Field.{Text}
 use Rattle.job.specs.Answer.{accepted}
+use Rattle.cells.specs.Fragment.{inFragment}
 use Rattle.cells.specs.Table.{Table}
+use Rattle.cells.specs.Calls.{Call, width, told, left, answer, after}
 use Rattle.image.specs.Image.{jobOf}
 use Rattle.table.specs.Lent.{Ready, IsCell}
 use Rattle.questions.proofs.FineLaws.{accept-fine}
-use mathlib.Core.Bool.{true}
-use Rattle.cells.specs.Fragment.{inFragment}
+use Rattle.calls.specs.Told.{acceptTold}
+use Rattle.calls.proofs.HeadLaws.{head-unread, head-refused, head-accepted}
 use borrow.Author.Needs.{needs}
 use Rattle.calls.proofs.accept.accept.Statement.{statement}
 use Rattle.calls.proofs.accept.accept.Tie as tie
 
-returns : tie.Need-returns
-unfolding acceptTold width
-returns c =
-    let a = c .before .before .before .before .before .before .args in
-    reading-refused (Call.accept (a .node) (a .message .state) (a .message .subformula) (a .message .value)) (a .text .now) (a .table .now) _ _ _ (c .before .before .before .read .ensures) (c .before .enum-told .given .1) (c .refused-by .ensures)
-
--- the reader accepts
-told-here : (c : tie.After-known-told) → readTold (Accepted (c .before .reading .given .0 .0)) ≡ readAnswer (c .before .before .before .before .before .before .args .text .now)
-told-here c = sym (ap readTold (c .before .reading .given .1)) ∙ c .before .before .before .read .ensures
-
-decode-requires : tie.Need-decode-requires
-decode-requires c κs = (told-here (c .before), refl)
-
-returns-2 : tie.Need-returns-2
-unfolding acceptTold width
-returns-2 c =
-    let a = c .before .before .before .before .before .before .before .before .before .before .before .before .before .args in
-    let p = c .before .before .before .before .before in
-    head-refused (Call.accept (a .node) (a .message .state) (a .message .subformula) (a .message .value)) (a .text .now) (a .table .now) _ (told-here (p .before .before)) _ (p .decode .ensures .1) _ (c .before .before .accept-no .ensures) (c .by .result) (c .by .ensures) (c .before .if1 .taken)
-
--- all questions are answered yes
-module _ (c : tie.Else1) where
+-- what the call was passed, and the image that is read
+module _ (c : tie.After-read-image) where
   abbrev start-of : tie.Start
-  start-of = c .before .before .before .before .before .before .before .before .before .before .before .before
+  start-of = c .before .before .before .before
 
-  abbrev decoded : tie.After-decode
-  decoded = c .before .before .before .before
-
-  abbrev m : List ℕ
-  m = decoded .decode .last .1 .1 .0
+  abbrev x : Text
+  x = start-of .args .text .now
 
   abbrev t : Table
   t = start-of .args .table .now
 
-  fine : Ready m t × (IsCell (jobOf m) (start-of .args .node) (start-of .args .message .state) (start-of .args .message .subformula) × (inFragment (jobOf m) (start-of .args .node) (start-of .args .message .state) ≡ true))
-  fine = accept-fine _ _ (decoded .decode .ensures .0) _ (c .if1 .left) _ _ _ _ (c .before .accept-no .ensures)
+  abbrev call : Call
+  call = Call.accept (start-of .args .node) (start-of .args .message .state) (start-of .args .message .subformula) (start-of .args .message .value)
 
-  done :
-      let a = start-of .args in
-      (accepted (told (Call.accept (a .node) (a .message .state) (a .message .subformula) (a .message .value)) (jobOf m) t) ≡ answer (Call.accept (a .node) (a .message .state) (a .message .subformula) (a .message .value)) (a .text .now) t) × (left (Call.accept (a .node) (a .message .state) (a .message .subformula) (a .message .value)) (jobOf m) t ≡ after (Call.accept (a .node) (a .message .state) (a .message .subformula) (a .message .value)) (a .text .now) t)
-  done =
-      let a = start-of .args in
-      head-accepted (Call.accept (a .node) (a .message .state) (a .message .subformula) (a .message .value)) (a .text .now) t _ (told-here (decoded .before .before)) m (decoded .decode .ensures .1) _ (c .before .accept-no .ensures) (c .if1 .left)
+  abbrev m : List ℕ
+  m = c .read-image .last .1 .0
+
+returns : tie.Need-returns
+unfolding acceptTold width
+returns c = let p = c .before .before in head-unread (call p) (x p) (t p) (m p) _ (p .read-image .ensures) (c .if1 .taken)
+
+accept-no-requires : tie.Need-accept-no-requires
+accept-no-requires c κs = c .before .before .before .before .read-image .ensures .read-so (c .before .before .if1 .left) .image
+
+returns-2 : tie.Need-returns-2
+unfolding acceptTold width
+returns-2 c =
+    let e = c .before .before .before .before .before in
+    let p = e .before .before in
+    head-refused (call p) (x p) (t p) (m p) _ (p .read-image .ensures) (e .if1 .left) _ (c .before .before .accept-no .ensures) (c .by .result)
+    (c .by .ensures) (c .before .if2 .taken)
+
+-- all questions are answered yes
+module _ (c : tie.Else2) where
+  abbrev read : tie.After-read-image
+  read = c .before .before .before .before .before .before
+
+  fine : Ready (m read) (t read) × (IsCell (jobOf (m read)) (start-of read .args .node) (start-of read .args .message .state) (start-of read .args .message .subformula) × (inFragment (jobOf (m read)) (start-of read .args .node) (start-of read .args .message .state) ≡ true))
+  fine = accept-fine (m read) (t read) (read .read-image .ensures .read-so (c .before .before .before .before .if1 .left) .image) _ (c .if2 .left) _ _ _ _ (c .before .accept-no .ensures)
+
+  done : (accepted (told (call read) (jobOf (m read)) (t read)) ≡ answer (call read) (x read) (t read)) × (left (call read) (jobOf (m read)) (t read) ≡ after (call read) (x read) (t read))
+  done = head-accepted (call read) (x read) (t read) (m read) _ (read .read-image .ensures) (c .before .before .before .before .if1 .left) _ (c .before .accept-no .ensures) (c .if2 .left)
 
 put-requires : tie.Need-put-requires
-put-requires c κs =
-    let (ready, (cell, inside)) = fine (c .before .before) in
-    (ready .lent, (cell, inside))
+put-requires c κs = let (ready, (cell, inside)) = fine (c .before .before) in (ready .lent, (cell, inside))
 
 returns-3 : tie.Need-returns-3
 unfolding acceptTold told left
@@ -77,5 +72,5 @@ returns-3 c =
 
 pub accept-spec : {M : Type 1} → statement M
 accept-spec =
-    let first = tie.spec (λ c κs. search needs) (λ c. search needs) (λ c. search needs) (λ c κs. search needs) returns decode-requires in
-    tie.close (first (λ c κs. search needs) (λ c κs. search needs) (λ c. search needs) returns-2 put-requires (λ c. search needs) returns-3)
+    tie.close
+    (tie.spec (λ c κs. refl) returns accept-no-requires (λ c κs. search needs) (λ c. search needs) returns-2 put-requires (λ c. search needs) returns-3)

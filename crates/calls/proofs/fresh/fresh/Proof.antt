@@ -4,8 +4,8 @@ use mathlib.Core.Path.{_≡_, sym, ap, ap₂, _∙_}
 use Rattle.job.specs.Answer.{refused}
 use Rattle.text.specs.Field.{Text}
 use Rattle.job.specs.Read.{readTold, readAnswer}
-use Rattle.job.specs.declared.reader.Header.{Header}
-use Rattle.job.specs.declared.reader.Reading.the-variants.{Accepted}
+use Rattle.job.specs.declared.reading.Header.{Header}
+use Rattle.job.specs.declared.reading.Reading.the-variants.{Accepted}
 use Rattle.job.proofs.ReadLaws.{text-accepted, read-fits, product-small}
 use Rattle.cells.specs.Calls.{Call, width}
 use Rattle.calls.specs.Told.{freshTold}

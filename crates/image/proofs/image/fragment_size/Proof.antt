@@ -6,8 +6,8 @@ use Rattle.image.proofs.image.fragment_size.Tie as tie
 
 returns : tie.Need-returns
 returns c =
-    let a = c .before .before in
-    fragment-size-read (a .args .m .now) (a .pre .0) (a .args .n) (a .pre .1) (c .wide .result) (c .wide .ensures .0)
+    let a = c .before in
+    fragment-size-read (a .args .m .now) (a .pre .0) (a .args .n) (a .pre .1) (c .word .result) (c .word .ensures .0)
 
 pub fragment-size-spec : {M : Type 1} → statement M
-fragment-size-spec = tie.close (tie.spec (λ c. search needs) (λ c. search needs) (λ c. search needs) (λ c κs. search needs) returns)
+fragment-size-spec = tie.close (tie.spec (λ c. search needs) (λ c κs. search needs) returns)

@@ -6,10 +6,8 @@ use Rattle.image.proofs.image.last_into.Tie as tie
 
 returns : tie.Need-returns
 returns c =
-    let a = c .before .before in
-    last-read (a .args .m .now) (a .pre .0) (a .args .n) (a .args .s) (a .pre .1 .0) (a .pre .1 .1) (c .wide .result) (c .wide .ensures .0)
+    let a = c .before in
+    last-read (a .args .m .now) (a .pre .0) (a .args .n) (a .args .s) (a .pre .1 .0) (a .pre .1 .1) (c .word .result) (c .word .ensures .0)
 
 pub last-into-spec : {M : Type 1} → statement M
-last-into-spec =
-    let first = tie.spec (λ c. search needs) (λ c. search needs) (λ c. search needs) (λ c. search needs) (λ c. search needs) in
-    tie.close (first (λ c κs. search needs) returns)
+last-into-spec = tie.close (tie.spec (λ c. search needs) (λ c. search needs) (λ c. search needs) (λ c κs. search needs) returns)

@@ -6,8 +6,8 @@ use Rattle.image.proofs.image.nodes.Tie as tie
 
 returns : tie.Need-returns
 returns c =
-    let a = c .before .before in
-    nodes-read _ (a .args .m .now) (image-denotes (a .args .m .now) (a .pre)) (c .wide .result) (c .wide .ensures .0)
+    let a = c .before in
+    nodes-read _ (a .args .m .now) (image-denotes (a .args .m .now) (a .pre)) (c .word .result) (c .word .ensures .0)
 
 pub nodes-spec : {M : Type 1} → statement M
-nodes-spec = tie.close (tie.spec (λ c. search needs) (λ c κs. search needs) returns)
+nodes-spec = tie.close (tie.spec (λ c κs. search needs) returns)

@@ -6,8 +6,8 @@ use Rattle.image.proofs.image.source.Tie as tie
 
 returns : tie.Need-returns
 returns c =
-    let a = c .before .before in
-    source-read _ (a .args .m .now) (image-denotes (a .args .m .now) (a .pre .0)) (a .args .e) (a .pre .1) (c .wide .result) (c .wide .ensures .0)
+    let a = c .before in
+    source-read _ (a .args .m .now) (image-denotes (a .args .m .now) (a .pre .0)) (a .args .e) (a .pre .1) (c .word .result) (c .word .ensures .0)
 
 pub source-spec : {M : Type 1} → statement M
-source-spec = tie.close (tie.spec (λ c. search needs) (λ c. search needs) (λ c. search needs) (λ c κs. search needs) returns)
+source-spec = tie.close (tie.spec (λ c. search needs) (λ c κs. search needs) returns)

@@ -13,13 +13,13 @@ use Rattle.image.proofs.image.subformula.Tie as tie
 -- the line that was parsed is the k-th one
 line-read :
     (c : tie.After-parse) (r : Subformula) → r ≡ formula (c .parse .result)
-    → (r ≡ subformula (jobOf (c .before .before .before .before .before .before .before .args .m .now) .formula) (c .before .before .before .before .before .before .before .args .k))
-    × Operands (c .before .before .before .before .before .before .before .args .k) r
+    → (r ≡ subformula (jobOf (c .before .before .before .before .args .m .now) .formula) (c .before .before .before .before .args .k))
+    × Operands (c .before .before .before .before .args .k) r
 line-read c =
-    let a = c .before .before .before .before .before .before .before in
+    let a = c .before .before .before .before in
     formula-read (a .args .m .now) (a .pre .0) (a .args .k) (a .pre .1)
-    (c .before .before .before .before .before .wide .result) (c .before .before .before .wide2 .result) (c .before .wide3 .result)
-    (c .before .before .before .before .before .wide .ensures .0) (c .before .before .before .wide2 .ensures .0) (c .before .wide3 .ensures .0)
+    (c .before .before .before .word .result) (c .before .before .word2 .result) (c .before .word3 .result)
+    (c .before .before .before .word .ensures .0) (c .before .before .word2 .ensures .0) (c .before .word3 .ensures .0)
     (c .parse .result) (c .parse .ensures)
 
 returns : tie.Need-returns
@@ -32,7 +32,5 @@ returns-2 c = line-read (c .before .before) _ (ap formula (sym (c .enum-told .gi
 
 pub subformula-spec : {M : Type 1} → statement M
 subformula-spec =
-    let first = tie.spec (λ c. search needs) (λ c. search needs) (λ c. search needs) (λ c κs. search needs) (λ c. search needs) in
-    let second = first (λ c. search needs) (λ c. search needs) (λ c κs. search needs) (λ c. search needs) (λ c. search needs) in
-    let third = second (λ c. search needs) (λ c κs. search needs) (λ c κs. search needs) (λ c. search needs) (λ c. search needs) returns in
-    tie.close (third returns-2)
+    let first = tie.spec (λ c. search needs) (λ c κs. search needs) (λ c. search needs) (λ c κs. search needs) (λ c. search needs) in
+    tie.close (first (λ c κs. search needs) (λ c κs. search needs) (λ c. search needs) (λ c. search needs) returns returns-2)

@@ -10,7 +10,7 @@ use Rattle.table.specs.Filling.{Leaves, part, ofColumn, Filling}
 use Rattle.table.proofs.Parts.{leaves-long}
 use Rattle.table.proofs.FillingLoops.{filling-start, filling-cell, filling-turn, filling-over}
 use Rattle.messages.specs.News.{copied}
-use Rattle.messages.proofs.NewsLaws.{copied-kept, column-idle, column-marked}
+use Rattle.messages.proofs.NewsLaws.{copied-kept, copied-idle, copied-marked}
 use borrow.Author.Needs.{needs}
 use native.Mathlib.Omega.{arith}
 use Rattle.messages.proofs.news.copy_column.Statement.{statement}
@@ -92,7 +92,7 @@ module _ (c : tie.After-loop Inv-loop μ-loop) where
 
 returns : tie.Need-returns Inv-loop μ-loop
 returns c =
-    (column-idle _ _ _ _ _ _ (c .before .before .loop .filled) (filled-all (c .before)) (c .if1 .taken), omega arith)
+    (copied-idle _ _ _ _ _ _ (c .before .before .loop .filled) (filled-all (c .before)) (c .if1 .taken), omega arith)
 
 same-length-2 : tie.Need-same-length-2 Inv-loop μ-loop
 same-length-2 c = leaves-long _ _ _ _ _ _ (c .before .before .loop .inv .2 .leaves)
@@ -101,7 +101,7 @@ returns-2 : tie.Need-returns-2 Inv-loop μ-loop
 returns-2 c =
     let l = c .before .before .loop in
     let few = l .inv .2 .few in
-    (column-marked _ _ _ _ _ _ (l .filled) (filled-all (c .before)) (search needs), omega arith)
+    (copied-marked _ _ _ _ _ _ (l .filled) (filled-all (c .before)) (search needs), omega arith)
 
 pub copy-column-spec : {M : Type 1} → statement M
 copy-column-spec =

@@ -5,7 +5,7 @@ use lib.ListN.{length}
 use Rattle.cells.specs.Rest.{Tracked}
 use Rattle.cells.proofs.Tracked.{all-tracked}
 use Rattle.image.specs.Image.{jobOf}
-use Rattle.rounds.proofs.ReadyLaws.{job-of, ready-formed, formed-ready, ready-small}
+use Rattle.exchange.proofs.ReadyLaws.{job-of, ready-formed, formed-ready, ready-small}
 use Rattle.rounds.proofs.CameLaws.{Came, came-first, came-rounds, came-cells, came-formed, came-more, came-last}
 use native.Mathlib.Omega.{arith}
 use Rattle.rounds.proofs.finish.run.Statement.{statement}

@@ -1,5 +1,6 @@
 -- `round`: the exchange, and close where that fills nothing.
-use Rattle.rounds.proofs.RunningLaws.{exchanged-running, ran-round, exchange-settled, ran-closed}
+use Rattle.exchange.proofs.RunningLaws.{exchanged-running}
+use Rattle.rounds.proofs.RunningLaws.{ran-round, exchange-settled, ran-closed}
 use borrow.Author.Needs.{needs}
 use Rattle.rounds.proofs.round.round.Statement.{statement}
 use Rattle.rounds.proofs.round.round.Tie as tie

@@ -1,7 +1,7 @@
 -- `selahmur_line`: where the line starts and how long it is.
 use mathlib.Core.Path.{ap₂, _∙_}
 use mathlib.Core.List.{[], _∷_}
-use Rattle.selahmur.specs.Stored.{stored}
+use Rattle.numbers.specs.Stored.{stored}
 use borrow.Author.Needs.{needs}
 use Rattle.selahmur.proofs.reading.selahmur_line.Statement.{statement}
 use Rattle.selahmur.proofs.reading.selahmur_line.Tie as tie

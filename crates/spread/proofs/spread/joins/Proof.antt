@@ -1,6 +1,8 @@
 -- `joins`: only a state that may, and where that many of its edges are told.
 use borrow.Author.Tests.{ne-eqb}
-use borrow.Author.Needs.{needs}
+use borrow.Author.Needs.{fits-under}
+use mir.Syntax.{w64}
+use native.Mathlib.Omega.{arith}
 use Rattle.spread.proofs.Tally.{run-is, joins-all, joins-some}
 use Rattle.spread.proofs.spread.joins.Statement.{statement}
 use Rattle.spread.proofs.spread.joins.Tie as tie
@@ -25,9 +27,9 @@ joins-spec =
     tie.close
     (tie.spec
     returns
-    (λ c. search needs)
-    (λ c κs. search needs)
-    (λ c κs. search needs)
+    (λ c. let b = c .before .before .pre in let few = b .0 .is-job .states .below in let l = b .1 in fits-under w64 _ 257 (omega arith) tt)
+    (λ c κs. let b = c .before .before .pre in (b .0, let l = b .1 in omega arith))
+    (λ c κs. let b = c .before .before .before .pre in (b .0, let l = b .1 in omega arith))
     sub-result
     returns-2
     returns-3)

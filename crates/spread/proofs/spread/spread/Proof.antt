@@ -1,6 +1,8 @@
 -- `spread`: the states of the queue before its head are told.
 use Prim.Native.Nat.{_-_, _≤_}
-use borrow.Author.Needs.{needs}
+use mathlib.Core.Path.{refl}
+use borrow.Author.Needs.{fits-under}
+use mir.Syntax.{w64}
 use native.Mathlib.Omega.{arith}
 use Rattle.image.specs.Image.{jobOf}
 use Rattle.spread.specs.Underway.{Spreading}
@@ -32,7 +34,10 @@ tell-requires c κs =
     let b = start-of p in (b .pre .0, ((b .pre .1 .0, c .before .before .before .loop-test .taken), (_, p .loop .inv)))
 
 add-head : tie.Need-add-head Inv-loop μ-loop
-add-head c = let r = room (c .before .before .before .before .before) in search (needs, r)
+add-head c =
+    let r = room (c .before .before .before .before .before) in
+    let l = c .before .before .before .before .loop-test .taken in
+    fits-under w64 _ 257 (omega arith) tt
 
 loop-less : tie.Need-loop-less Inv-loop μ-loop
 loop-less c = let r = room (c .before .before .before .before .before) in omega arith
@@ -52,7 +57,7 @@ spread-spec =
     (tie.spec
     Inv-loop
     μ-loop
-    (λ c κs. search needs)
+    (λ c κs. let pre = c .before .before .pre in (pre .0, (pre .1 .0, refl)))
     loop-holds
     tell-requires
     add-head

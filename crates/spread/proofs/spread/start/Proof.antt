@@ -2,22 +2,23 @@
 use Prim.Native.Nat.{_-_, _≤_, _<_}
 use mathlib.Core.Path.{_≡_}
 use mathlib.Core.Logic.{⊎-elim}
-use borrow.Author.Needs.{needs}
+use borrow.Author.Needs.{zero≤, fits-under}
+use mir.Syntax.{w8, w64}
 use native.Mathlib.Omega.{arith}
 use denote.Ref.{now}
 use Rattle.image.specs.Image.{jobOf, fragmentSize}
-use Rattle.spread.proofs.Queue.{Passed, start-none, start-rest, start-room, start-push, start-over}
+use Rattle.spread.proofs.Queue.{QueuedBelow, start-none, start-rest, start-room, start-push, start-over}
 use Rattle.spread.proofs.spread.start.Statement.{statement}
 use Rattle.spread.proofs.spread.start.Tie as tie
 
 abbrev Inv-loop : tie.InvT-loop
-Inv-loop m n marks queue₀ tail₀ i₀ i-end queue tail i = (i ≤ i-end) × Passed (jobOf m) n marks queue tail i
+Inv-loop m n marks queue₀ tail₀ i₀ i-end queue tail i = (i ≤ i-end) × QueuedBelow (jobOf m) n marks queue tail i
 
 abbrev μ-loop : tie.MeasureT-loop
 μ-loop m n marks queue₀ tail₀ i₀ i-end queue tail i = i-end - i
 
 loop-holds : tie.Need-loop-holds Inv-loop μ-loop
-loop-holds c = (search needs, start-none _ _ (now (c .before .args .marks)) _ (c .before .pre .1 .1))
+loop-holds c = (zero≤, start-none _ _ (now (c .before .args .marks)) _ (c .before .pre .1 .1))
 
 in-list :
     (c : tie.In-loop Inv-loop μ-loop)
@@ -39,7 +40,7 @@ element-write-queue : tie.Need-element-write-queue Inv-loop μ-loop
 element-write-queue c = room c
 
 add-tail : tie.Need-add-tail Inv-loop μ-loop
-add-tail c = let r = room c in search (needs, r)
+add-tail c = let r = room c in fits-under w64 _ 257 (omega arith) tt
 
 loop-again : tie.Need-loop-again Inv-loop μ-loop
 loop-again c =
@@ -48,7 +49,7 @@ loop-again c =
     let b = p .before .before .before .before in
     let marks = now (b .args .marks) in
     let s-is = p .fragment-state .ensures .0 in (
-      search needs,
+      omega arith,
       ⊎-elim
           (λ (how, q, t).
           rw (q, t) (start-push _ _ marks (b .pre .0 .is-job) (l .inv .1) (in-list (p .before)) _ s-is (how .taken)))
@@ -66,5 +67,18 @@ returns c =
 
 pub start-spec : {M : Type 1} → statement M
 start-spec =
-    let first = tie.spec Inv-loop μ-loop (λ c κs. search needs) loop-holds fragment-state-requires (λ c. search needs) (λ c. search needs) in
-    tie.close (first element-write-queue add-tail (λ c. search needs) (λ c. search needs) loop-again returns)
+    tie.close
+    (tie.spec
+    Inv-loop
+    μ-loop
+    (λ c κs. (c .pre .0, c .pre .1 .0))
+    loop-holds
+    fragment-state-requires
+    (λ c. c .fragment-state .ensures .2)
+    (λ c. fits-under w8 _ 256 (c .before .before .fragment-state .ensures .2) tt)
+    element-write-queue
+    add-tail
+    (λ c. let r = in-list (c .before .before .before) in fits-under w64 _ 257 (omega arith) tt)
+    (λ c. omega arith)
+    loop-again
+    returns)

@@ -3,7 +3,9 @@ use Prim.Native.Nat.{ℕ, _-_, _<_}
 use mathlib.Core.Path.{_≡_}
 use mathlib.Core.List.{List}
 use mathlib.Core.Logic.{⊎-elim}
-use borrow.Author.Needs.{needs}
+use borrow.Author.Needs.{scaled-fits, fits-under}
+use lib.Dec.{lit<}
+use mir.Syntax.{w8, w16, w64}
 use native.Mathlib.Omega.{arith}
 use denote.Ref.{now}
 use Rattle.job.specs.Written.{IsJob, edgeCount}
@@ -46,7 +48,7 @@ cast-last-into : tie.Need-cast-last-into Inv-loop μ-loop
 cast-last-into c =
     let few = job (c .before) .states .below in
     let small = head-in (job (c .before)) (begun (c .before)) (in-queue (c .before)) in
-    search (needs, few, small)
+    fits-under w64 _ 256 (omega arith) tt
 
 last-into-requires : tie.Need-last-into-requires Inv-loop μ-loop
 last-into-requires c κs =
@@ -83,7 +85,7 @@ add-told c =
     let i = p .before in
     let b = start-of i in
     let few = walk-count (job b) (begun b) (in-queue b) (here i) (on-edge i) _ (p .source .ensures .0) in
-    search (needs, few)
+    fits-under w16 _ 65536 (omega arith) tt
 
 room : (c : tie.Then1 Inv-loop μ-loop) → c .before .before .before .before .before .before .loop .tail < 256
 room c =
@@ -97,7 +99,7 @@ element-write-queue : tie.Need-element-write-queue Inv-loop μ-loop
 element-write-queue c = room c
 
 add-tail : tie.Need-add-tail Inv-loop μ-loop
-add-tail c = let r = room c in search (needs, r)
+add-tail c = let r = room c in fits-under w64 _ 257 (omega arith) tt
 
 next-into-requires : tie.Need-next-into-requires Inv-loop μ-loop
 next-into-requires c κs =
@@ -130,7 +132,29 @@ returns c =
 
 pub tell-spec : {M : Type 1} → statement M
 tell-spec =
-    let first = tie.spec Inv-loop μ-loop element-copy-out-last-into cast-last-into last-into-requires loop-holds (λ c. search needs) in
-    let second = first source-requires (λ c. search needs) (λ c. search needs) add-told (λ c. search needs) (λ c. search needs) in
-    let third = second (λ c. search needs) (λ c κs. search needs) (λ c. search needs) (λ c. search needs) element-write-queue add-tail in
-    tie.close (third (λ c. search needs) next-into-requires loop-less loop-again returns)
+    tie.close
+    (tie.spec
+    Inv-loop
+    μ-loop
+    element-copy-out-last-into
+    cast-last-into
+    last-into-requires
+    loop-holds
+    (λ c. let some = on-edge c in omega arith)
+    source-requires
+    (λ c. scaled-fits _ 256 2 (c .source .ensures .2) (lit< tt))
+    (λ c. c .source .ensures .2)
+    add-told
+    (λ c. scaled-fits _ 256 2 (c .before .source .ensures .2) (lit< tt))
+    (λ c. c .before .source .ensures .2)
+    (λ c. c .before .source .ensures .2)
+    (λ c κs. (start-of (c .before .before .before) .pre .0, c .before .before .source .ensures .1))
+    (λ c. c .before .before .before .before .source .ensures .2)
+    (λ c. fits-under w8 _ 256 (c .before .before .before .before .source .ensures .2) tt)
+    element-write-queue
+    add-tail
+    (λ c. let some = on-edge (c .before .before .before .before .before) in omega arith)
+    next-into-requires
+    loop-less
+    loop-again
+    returns)

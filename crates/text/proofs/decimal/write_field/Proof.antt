@@ -1,4 +1,5 @@
 -- `write_field`: five stores, as `sets` has them.
+use lib.Dec.{lit<}
 use lib.ListN.{length-set}
 use Rattle.text.specs.Decimal.{decimal}
 use native.Mathlib.Numerals.{towards-suc}
@@ -33,6 +34,21 @@ returns c =
 
 pub write-field-spec : {M : Type 1} → statement M
 write-field-spec =
-    let first = tie.spec (λ c κs. search needs) (λ c. search needs) (λ c κs. search needs) (λ c. search needs) slice-write-out-2 in
-    let second = first (λ c κs. search needs) (λ c. search needs) slice-write-out-3 (λ c κs. search needs) (λ c. search needs) in
-    tie.close (second slice-write-out-4 (λ c κs. search needs) (λ c. search needs) slice-write-out-5 (λ c. search needs) returns)
+    tie.close
+    (tie.spec
+    (λ c κs. (lit< tt, c .before .pre .0))
+    (λ c. let room = c .before .before .pre .1 in omega arith)
+    (λ c κs. (lit< tt, c .before .before .pre .0))
+    (λ c. search needs)
+    slice-write-out-2
+    (λ c κs. (lit< tt, c .before .before .before .pre .0))
+    (λ c. search needs)
+    slice-write-out-3
+    (λ c κs. (lit< tt, c .before .before .before .before .pre .0))
+    (λ c. search needs)
+    slice-write-out-4
+    (λ c κs. (lit< tt, c .before .before .before .before .before .pre .0))
+    (λ c. search needs)
+    slice-write-out-5
+    (λ c. search needs)
+    returns)

@@ -32,6 +32,21 @@ returns c = writing-end _ _ _ _ (c .before .loop .i) (c .before .loop .inv) (sea
 
 pub write-line-spec : {M : Type 1} → statement M
 write-line-spec =
-    let first = tie.spec Inv-loop μ-loop loop-holds (λ c. search needs) (λ c. search needs) (λ c. search needs) (λ c. search needs) in
-    let second = first write-field-requires (λ c. search needs) (λ c. search needs) loop-again (λ c. search needs) (λ c. search needs) in
-    tie.close (second (λ c. search needs) (λ c. search needs) returns)
+    tie.close
+    (tie.spec
+    Inv-loop
+    μ-loop
+    loop-holds
+    (λ c. search needs)
+    (λ c. search needs)
+    (λ c. search needs)
+    (λ c. search needs)
+    write-field-requires
+    (λ c. search needs)
+    (λ c. search needs)
+    loop-again
+    (λ c. search needs)
+    (λ c. search needs)
+    (λ c. search needs)
+    (λ c. search needs)
+    returns)

@@ -47,6 +47,21 @@ returns-2 c =
 
 pub is-formed-spec : {M : Type 1} → statement M
 is-formed-spec =
-    let first = tie.spec Inv-loop μ-loop loop-holds (λ c. search needs) (λ c. search needs) (λ c κs. search needs) (λ c. search needs) in
-    let second = first (λ c. search needs) returns (λ c. search needs) (λ c. search needs) loop-again (λ c. search needs) (λ c. search needs) in
-    tie.close (second (λ c. search needs) returns-2)
+    tie.close
+    (tie.spec
+    Inv-loop
+    μ-loop
+    loop-holds
+    (λ c. search needs)
+    (λ c. search needs)
+    (λ c κs. search needs)
+    (λ c. search needs)
+    (λ c. search needs)
+    returns
+    (λ c. search needs)
+    (λ c. search needs)
+    loop-again
+    (λ c. search needs)
+    (λ c. search needs)
+    (λ c. search needs)
+    returns-2)

@@ -1,4 +1,0 @@
-pub mod ValueLaws
-pub mod MarkLaws
-pub mod SetLaws
-pub mod ColumnLaws

@@ -1,0 +1,4 @@
+pub mod LaidLaws
+pub mod ChainLaws
+pub mod FragmentLaws
+pub mod TextLaws

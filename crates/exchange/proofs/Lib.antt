@@ -1,0 +1,4 @@
+pub mod ReadyLaws
+pub mod ExchangeLaws
+pub mod RunningLaws
+pub mod SettledLaws

@@ -1,0 +1,88 @@
+// Where a line stands, and question 4: whether each line is of its fields.
+ghost use mathlib.Core.Path.{_≡_};
+ghost use mathlib.Core.Bool.{not};
+ghost use Prim.Native.Nat.{_+_, _≤_};
+ghost use lib.ListN.{length};
+ghost use Rattle.law.specs.Bounded.{first};
+ghost use Rattle.text.specs.Field.{Text};
+ghost use Rattle.job.specs.Layout.{states, edges, fieldsOf, lineAt};
+ghost use Rattle.job.specs.Questions.{formedLine};
+ghost use Rattle.job.specs.Leaves.{Fits};
+ghost use Rattle.job.specs.Read.{lineStart, lineLength};
+use crate::head::head;
+use job::reading::Header;
+use job::reading::Reading;
+use text::field::is_formed;
+
+// How many fields line `number` has, where `pairs` lines behind line 1 have two: a state's or an edge's.
+fn fields_in(pairs: usize, number: usize) -> usize
+    requires { ⌜ pairs ≤ 2304 ⌝ }
+    ensures { λ r. ⌜ ((t : Text) → states t + edges t ≡ pairs → r ≡ fieldsOf t number) ⌝ }
+{
+    if number <= 1 {
+        return 4;
+    }
+    if number <= 1 + pairs {
+        return 2;
+    }
+    3
+}
+
+// Where line `number` begins.
+fn line_start(pairs: usize, number: usize) -> usize
+    requires { ⌜ (pairs ≤ 2304) × (number ≤ 2337) ⌝ }
+    ensures { λ r. ⌜ ((t : Text) → states t + edges t ≡ pairs → r ≡ lineAt t number) ⌝ }
+{
+    if number <= 1 {
+        return 0;
+    }
+    if number <= 1 + pairs {
+        return 21 + 11 * (number - 2);
+    }
+    21 + 11 * pairs + 16 * (number - (2 + pairs))
+}
+
+// A part of a text: where it begins, and how many bytes it has.
+pub struct Part {
+    pub start: usize,
+    pub size: usize,
+}
+
+// Where line `number` stands, counted from 1, without byte 10; 0 and 0 where there is no such line.
+pub fn line_part(text: &[u8], number: usize) -> Part
+    ensures stands { λ r. ⌜ (r .start ≡ lineStart (now (text .entry)) number) × (r .size ≡ lineLength (now (text .entry)) number) ⌝ }
+    ensures inside { λ r. ⌜ r .start + r .size ≤ length (now (text .entry)) ⌝ }
+{
+    let head = head(text);
+    let Reading::Accepted(h) = head else {
+        return Part { start: 0, size: 0 };
+    };
+    let pairs = h.states + h.edges;
+    if number == 0 {
+        return Part { start: 0, size: 0 };
+    }
+    if 1 + pairs + h.subformulas < number {
+        return Part { start: 0, size: 0 };
+    }
+    Part {
+        start: line_start(pairs, number),
+        size: 5 * fields_in(pairs, number),
+    }
+}
+
+// Question 4, of the lines behind line 1: the index of the first of them that is not of its fields, or how many they are.
+pub fn malformed_line(text: &[u8], h: Header) -> usize
+    requires { ⌜ Fits (now text) h ⌝ }
+    ensures { λ r. ⌜ r ≡ first (λ i. not (formedLine (now (text .entry)) i)) (h .states + h .edges + h .subformulas) ⌝ }
+{
+    let pairs = h.states + h.edges;
+    let count = pairs + h.subformulas;
+    for i in 0..count {
+        let at = line_start(pairs, 2 + i);
+        let fields = fields_in(pairs, 2 + i);
+        if !is_formed(text, at, fields) {
+            return i;
+        }
+    }
+    count
+}

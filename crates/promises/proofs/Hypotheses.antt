@@ -1,0 +1,130 @@
+-- The hypotheses of demand 3 can be met: every list of calls can be made, every accepted text has a table fresh for it, one machine has two
+-- cuttings, and there is a list with a message in it: on case C2 node 1 steps and offers what it knows of its border state, node 0 accepts
+-- it, accepts it again, and node 1 and an empty text are refused. Assumes nothing.
+use Prim.Native.Nat.{ℕ}
+use mathlib.Core.Path.{_≡_, refl, sym, subst}
+use mathlib.Core.List.{List, [], _∷_, map, List·Memᴰ, List·Memᴰ·head}
+use native.Mathlib.Omega.{arith}
+use lib.ListN.{length-replicate}
+use Rattle.text.specs.Field.{Text}
+use Rattle.job.specs.Job.{decode}
+use Rattle.job.specs.Answer.{accepted, refused}
+use Rattle.job.specs.Questions.{Accepted}
+use Rattle.cells.specs.Table.{Table, tableLength}
+use Rattle.cells.specs.Calls.{Call, fresh, step, offer, accept, close, answer, after}
+use Rattle.cells.specs.Cases.{bytes, jobV, job2, job3, zeros}
+use Rattle.cells.proofs.CallLaws.{fresh-accepted}
+use Rattle.cells.proofs.Printed.{printed}
+use Rattle.promises.specs.Contracts.{Loan, Happens}
+use Rattle.promises.specs.Demand3.{Event, Happened, Message, handedOut, isRefused, isMeant, Meant, FreshFor, ListOfCalls, OneMachine}
+use Rattle.promises.proofs.Contracts.{may-happen}
+
+-- some references
+abbrev pub lent : Loan
+lent =
+    record {
+      lifetimes = ([], ([], tt));
+      text = record { ptr = (0, 0); name = 0; now = [] };
+      table = record { ptr = (0, 0); name = 0; now = [] };
+    }
+
+-- a call with its text, and what comes of a list of them by the definitions
+pub record Made : Type 0 where
+  pub text : Text
+  pub call : Call
+
+unfoldable pub played : List Made → Table → List Event
+played [] t = []
+played (c ∷ cs) t =
+    let u = after (c .call) (c .text) t in
+    record { lent = lent; text = c .text; call = c .call; told = answer (c .call) (c .text) t; left = u } ∷ played cs u
+
+pub played-happened : (cs : List Made) (t : Table) → Happened t (played cs t)
+unfolding played Happened
+played-happened [] t = tt
+played-happened (c ∷ cs) t =
+    (may-happen lent (c .text) .call (c .call) t, played-happened cs (after (c .call) (c .text) t))
+
+pub fresh-for : (x : Text) → Accepted x → FreshFor x (after fresh x (zeros x))
+unfolding zeros
+fresh-for x is =
+    let told = fresh-accepted x (zeros x) is (length-replicate (tableLength (decode x)) 0) .0 in
+    record {
+      lent = lent;
+      before = zeros x;
+      made = subst (λ a. Happens lent x fresh (zeros x) a (after fresh x (zeros x))) (sym told) (may-happen lent x .call fresh (zeros x));
+    }
+
+-- C1 and C3: V with two nodes and with one
+pub one-machine : OneMachine (bytes jobV) (bytes job3)
+unfolding printed
+one-machine = record { structure = refl; formula = refl }
+
+unfoldable pub of-job : Call → Made
+of-job c = record { text = bytes job2; call = c }
+
+unfoldable pub calls : List Made
+calls =
+    of-job (step 1) ∷ of-job (offer 1 2) ∷ of-job (accept 0 1 2 1) ∷ of-job (accept 0 1 2 1) ∷ of-job (accept 1 1 2 1)
+    ∷ record { text = []; call = close }
+    ∷ []
+
+unfoldable pub start : Table
+start = after fresh (bytes job2) (zeros (bytes job2))
+
+pub start-fresh : FreshFor (bytes job2) start
+unfolding printed start Accepted
+start-fresh = fresh-for (bytes job2) refl
+
+unfoldable pub events : List Event
+events = played calls start
+
+-- neither a step nor an offer is an accept; an accept's message is the one that it names
+step-none : (m : ℕ) (out : List Message) (n s k v : ℕ) → step m ≡ accept n s k v → List·Memᴰ (record { state = s; subformula = k; value = v }) out
+step-none m out n s k v e = let z : _≡_ {A = ℕ} 0 1 = cc in absurd (omega arith)
+
+offer-none : (a b : ℕ) (out : List Message) (n s k v : ℕ) → offer a b ≡ accept n s k v → List·Memᴰ (record { state = s; subformula = k; value = v }) out
+offer-none a b out n s k v e = let z : _≡_ {A = ℕ} 0 1 = cc in absurd (omega arith)
+
+accept-known :
+    (out : List Message) (m a b w : ℕ)
+    → List·Memᴰ (record { state = a; subformula = b; value = w }) out
+    → (n s k v : ℕ) → accept m a b w ≡ accept n s k v → List·Memᴰ (record { state = s; subformula = k; value = v }) out
+accept-known out m a b w known n s k v e =
+    let p : a ≡ s = cc in
+    let q : b ≡ k = cc in
+    let r : w ≡ v = cc in
+    subst (λ u. List·Memᴰ (record { state = u; subformula = k; value = v }) out) p
+    (subst (λ u. List·Memᴰ (record { state = a; subformula = u; value = v }) out) q
+    (subst (λ u. List·Memᴰ (record { state = a; subformula = b; value = u }) out) r known))
+
+pub events-meant : Meant (bytes job2) [] events
+unfolding printed calls of-job start events played Meant handedOut
+events-meant = (
+  isMeant refl (step-none 1 []),
+  (
+    isMeant refl (offer-none 1 2 []),
+    (
+      isMeant refl (accept-known _ 0 1 2 1 (List·Memᴰ·head refl)),
+      (isMeant refl (accept-known _ 0 1 2 1 (List·Memᴰ·head refl)), (isRefused 16 0 1 refl, (isRefused 1 1 2 refl, tt))),
+    ),
+  ),
+)
+
+-- what the calls answered
+pub events-told :
+    map (λ e. e .told) events
+    ≡ accepted (5 ∷ []) ∷ accepted (1 ∷ 2 ∷ 1 ∷ []) ∷ accepted (1 ∷ []) ∷ accepted (0 ∷ []) ∷ refused 16 0 1 ∷ refused 1 1 2 ∷ []
+unfolding printed calls of-job start events played
+events-told = refl
+
+pub example : ListOfCalls (bytes job2)
+unfolding events
+example =
+    record {
+      start = start;
+      fresh-start = start-fresh;
+      events = events;
+      happened = played-happened calls start;
+      meant = events-meant;
+    }

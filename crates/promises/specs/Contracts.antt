@@ -1,0 +1,101 @@
+-- The contracts of the nine calls and of the line that `verdict` prints, as statements about what is passed and what comes of it. `Learnt` of a
+-- function is what its `ensures` clauses promise a caller, `Asked` what its `requires` clauses ask, as the toolchain reads them off the
+-- source: of the lifetimes, the arguments, the result, and the arguments at exit. Assumes nothing.
+use Prim.Native.Nat.{ℕ}
+use mathlib.Core.Path.{_≡_}
+use mathlib.Core.List.{List}
+use contract.Lifetimes.{Lfts}
+use denote.Ref.{RefT, at-last}
+use Rattle.text.specs.Field.{Text}
+use Rattle.job.specs.Answer.{Answer}
+use Rattle.job.specs.Read.{readTold, readAnswer, lineOf}
+use Rattle.job.specs.declared.reading.Reading.{Reading}
+use Rattle.cells.specs.Table.{Table}
+use Rattle.cells.specs.Calls.{Call, fresh, step, offer, accept, look, close, finish, answer, after}
+use Rattle.calls.specs.declared.fresh.Cleared.{Cleared}
+use Rattle.calls.specs.Told.{freshTold, stepTold, offerTold, acceptTold, lookTold, closeTold, finishTold}
+use Rattle.calls.specs.declared.step.Stepped.{Stepped}
+use Rattle.calls.specs.declared.offer.Message.{Message}
+use Rattle.calls.specs.declared.offer.Offered.{Offered}
+use Rattle.calls.specs.declared.accept.Delivered.{Delivered}
+use Rattle.calls.specs.declared.look.Looked.{Looked}
+use Rattle.calls.specs.declared.close.Closed.{Closed}
+use Rattle.calls.specs.declared.finish.Finished.{Finished}
+use Rattle.verdict_line.specs.VerdictLine.{verdictLine}
+use Rattle.calls.proofs.read.read.Reads as reading
+use Rattle.calls.proofs.line.line.Reads as lining
+use Rattle.calls.proofs.fresh.fresh.Reads as clearing
+use Rattle.calls.proofs.step.step.Reads as stepping
+use Rattle.calls.proofs.offer.offer.Reads as offering
+use Rattle.calls.proofs.accept.accept.Reads as accepting
+use Rattle.calls.proofs.look.look.Reads as looking
+use Rattle.calls.proofs.close.close.Reads as closing
+use Rattle.calls.proofs.finish.finish.Reads as finishing
+use Rattle.verdict_line.proofs.verdict_line.Reads as printing
+
+-- How text and table are lent. Contracts speak only of the values behind the references.
+pub record Loan : Type 0 where
+  -- for how long, and by which references
+  pub lifetimes : Lfts 2
+  pub text : RefT (List ℕ)
+  pub table : RefT (List ℕ)
+
+module _ (l : Loan) (x : Text) where
+  abbrev text : RefT (List ℕ)
+  text = at-last (l .text) x
+
+  abbrev table : Table → RefT (List ℕ)
+  table t = at-last (l .table) t
+
+  -- The call with text x and table t may answer a and leave table u: the contract of its function holds of these. What is lent to
+  -- offer and look can only be read, so it stays.
+  unfoldable pub Happens : Call → Table → Answer → Table → Type 0
+  Happens fresh t a u =
+      (r : Cleared)
+      × (freshTold r ≡ a)
+      × clearing.Learnt (l .lifetimes) (text, (table t, tt)) r (text, (table u, tt))
+  Happens (step n) t a u =
+      (r : Stepped)
+      × (stepTold r ≡ a)
+      × stepping.Learnt (l .lifetimes) (text, (table t, (n, tt))) r (text, (table u, (n, tt)))
+  Happens (offer s k) t a u =
+      (r : Offered)
+      × (offerTold r ≡ a)
+      × (u ≡ t)
+      × offering.Learnt (l .lifetimes) (text, (table t, (s, (k, tt)))) r (text, (table t, (s, (k, tt))))
+  Happens (accept n s k v) t a u =
+      let m : Message = record { state = s; subformula = k; value = v } in
+      (r : Delivered)
+      × (acceptTold r ≡ a)
+      × accepting.Learnt (l .lifetimes) (text, (table t, (n, (m, tt)))) r (text, (table u, (n, (m, tt))))
+  Happens (look n s k) t a u =
+      (r : Looked)
+      × (lookTold r ≡ a)
+      × (u ≡ t)
+      × looking.Learnt (l .lifetimes) (text, (table t, (n, (s, (k, tt))))) r (text, (table t, (n, (s, (k, tt)))))
+  Happens close t a u =
+      (r : Closed)
+      × (closeTold r ≡ a)
+      × closing.Learnt (l .lifetimes) (text, (table t, tt)) r (text, (table u, tt))
+  Happens finish t a u =
+      (r : Finished)
+      × (finishTold r ≡ a)
+      × finishing.Learnt (l .lifetimes) (text, (table t, tt)) r (text, (table u, tt))
+
+  -- read may answer a, line n may hand back this part, and verdict may print these bytes
+  unfoldable pub Reads : Answer → Type 0
+  Reads a = (r : Reading) × (readTold r ≡ a) × reading.Learnt (l .lifetimes .0, tt) (text, tt) r (text, tt)
+
+  unfoldable pub HandsBack : ℕ → List ℕ → Type 0
+  HandsBack n part =
+      (r : RefT (List ℕ)) × (r .now ≡ part) × lining.Learnt (l .lifetimes .0, tt) (text, (n, tt)) r (text, (n, tt))
+
+  unfoldable pub Prints : List ℕ → Type 0
+  Prints said = printing.Learnt (l .lifetimes .0, tt) (text, tt) said (text, tt)
+
+-- Whatever is lent, what is defined may happen.
+pub record MayHappen (l : Loan) (x : Text) : Type 0 where
+  pub call : (c : Call) (t : Table) → Happens l x c t (answer c x t) (after c x t)
+  pub read : Reads l x (readAnswer x)
+  pub line : (n : ℕ) → HandsBack l x n (lineOf x n)
+  pub verdict : Prints l x (verdictLine x)

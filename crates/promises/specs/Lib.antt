@@ -1,0 +1,4 @@
+pub mod Contracts
+pub mod Demand1
+pub mod Demand2
+pub mod Demand3

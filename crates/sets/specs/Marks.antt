@@ -1,0 +1,60 @@
+-- The two sets of a set rule as least sets that spread from marks, and arrays that hold the marks of a node's fragment. Assumes nothing.
+use Prim.Native.Nat.{ℕ, _-_, _<_}
+use mathlib.Core.Path.{_≡_}
+use mathlib.Core.Bool.{Bool, cond, _&&_, _||_}
+use mathlib.Core.List.{List}
+use lib.ListN.{length, getD}
+use lib.Dec.{eqb, ltb}
+use Rattle.law.specs.Bounded.{any}
+use Rattle.law.specs.Fixpoint.{member, least}
+use Rattle.law.specs.Fixpoint as fixpoint
+use Rattle.job.specs.Job.{Job, over, size}
+use Rattle.job.specs.Rule.{quantifier}
+use Rattle.job.specs.declared.rule.Rule.{Rule}
+use Rattle.job.specs.declared.rule.Rule.the-variants.{Sets}
+use Rattle.cells.specs.Fragment.{inFragment}
+use Rattle.cells.specs.Table.{Table, cell, isEmpty}
+use Rattle.image.specs.Image.{placeOf, rank, fragmentSize, fragmentState}
+use Rattle.table.specs.Filling.{Values}
+use Rattle.sets.specs.declared.sets.Growth.{Growth}
+
+-- The rule that grows so.
+abbrev pub ruleBy : Growth → Rule
+ruleBy g = Sets (g .all) (g .start) (g .grow) (g .value)
+
+-- A state's mark by its place and its cells: 2 where it starts in the set, 1 where it may join, else another. Cells that are `also` count as
+-- true beside those that are: with 3 none do, which gives the smallest set; with 2 the empty ones, which gives what the largest leaves out.
+unfoldable pub mark : ℕ → ℕ → ℕ → ℕ → ℕ → ℕ → ℕ
+mark also v place own start grow =
+    cond (eqb own v) 2
+    (cond (isEmpty own)
+    (cond (eqb place 2) (cond (eqb start 1 || eqb start also) 2 (cond (eqb grow 1 || eqb grow also) 1 0)) also)
+    0)
+
+-- The column of node n and subformula k, over the cells of the table t: the marks by state, and how a set grows by them.
+module _ (J : Job) (t : Table) (n k : ℕ) (g : Growth) (also : ℕ) where
+  abbrev pub markAt : ℕ → ℕ
+  markAt s = mark also (g .value) (placeOf J n s) (cell J t n s k) (cell J t n s (g .start)) (cell J t n s (g .grow))
+
+  unfoldable pub grows : fixpoint.Rule
+  grows X s = eqb (markAt s) 2 || (eqb (markAt s) 1 && over (J .structure) (quantifier (g .all)) s X)
+
+  -- An array has 2 at the states of the set that grows so.
+  pub record IsSet (marks : List ℕ) : Type 0 where
+    pub has : (s : ℕ) → s < size J → eqb (getD marks s 0) 2 ≡ member (least grows (size J)) s
+
+-- An array has f at the states of rank below i in node n's fragment, and d everywhere else.
+pub record Marks (J : Job) (n : ℕ) (f : ℕ → ℕ) (d i : ℕ) (marks : List ℕ) : Type 0 where
+  pub long : length marks ≡ 256
+  pub mark-at : (s : ℕ) → s < 256 → getD marks s 0 ≡ cond (inFragment J n s && ltb (rank J n s) i) (f s) d
+
+-- Some state of the fragment has an empty cell.
+unfoldable pub hasEmpty : Job → Table → ℕ → ℕ → Bool
+hasEmpty J t n k = any (λ i. isEmpty (cell J t n (fragmentState J n i) k)) (fragmentSize J n)
+
+-- A state's value by its marks in the end: in the smallest set, left out of the largest, or in the largest.
+unfoldable pub setValue : ℕ → ℕ → ℕ → ℕ
+setValue v small out = cond (eqb small 2) v (cond (eqb out 2) 2 (1 - v))
+
+abbrev pub setValues : ℕ → List ℕ → List ℕ → Values
+setValues v small out m s j = setValue v (getD small s 0) (getD out s 0)

@@ -1,0 +1,139 @@
+// The column of a set rule. Both sets spread from marks of the node's fragment: the smallest where only what is known counts, and what the
+// largest leaves out where all that may still be counts too.
+ghost use mathlib.Core.Path.{_≡_};
+ghost use Prim.Native.Nat.{_<_, _≤_};
+ghost use Rattle.job.specs.Job.{subformulaCount};
+ghost use Rattle.job.specs.Rule.{InRange};
+ghost use Rattle.image.specs.Image.{jobOf};
+ghost use Rattle.table.specs.Lent.{Lent, Ready};
+ghost use Rattle.table.specs.Filling.{Leaves, part, ofColumn};
+ghost use Rattle.table.specs.Column.{stepBy};
+ghost use Rattle.sets.specs.Marks.{ruleBy, mark as markOf, IsSet, hasEmpty, setValue, setValues};
+use image::image::Image;
+use image::image::fragment_size;
+use image::image::fragment_state;
+use image::image::place;
+use spread::spread::spread;
+use table::cell::cell;
+use table::cell::put;
+
+// How the smallest set of a rule grows: over all successors or some, the operand at which a state starts in it, the operand that lets it
+// grow, and the value that it gives.
+pub struct Growth {
+    pub all: bool,
+    pub start: usize,
+    pub grow: usize,
+    pub value: u8,
+}
+
+// A state's mark: 2 where it starts in the set, 1 where it may join, else another. Cells that are `also` count as true beside those that are.
+fn mark(also: u8, v: u8, place: u16, own: u8, start: u8, grow: u8) -> u8
+    ensures { λ r. ⌜ r ≡ markOf also v place own start grow ⌝ }
+{
+    if own == v {
+        return 2;
+    }
+    if own != 2 {
+        return 0;
+    }
+    if place != 2 {
+        return also;
+    }
+    if (start == 1) | (start == also) {
+        return 2;
+    }
+    if (grow == 1) | (grow == also) {
+        return 1;
+    }
+    0
+}
+
+// The set that grows so, as the states with mark 2. With `also` 3 it is the smallest set; with 2, where a cell that is empty counts as true,
+// it is all that the largest set leaves out. A state outside the fragment is as one of which nothing is known.
+fn set_of(m: &Image, table: &[u8], n: usize, k: usize, g: Growth, also: u8) -> [u8; 256]
+    requires { ⌜ Ready (now m) (now table) ⌝ }
+    requires { ⌜ (n < jobOf (now m) .nodes) × (k < subformulaCount (jobOf (now m))) × InRange k (ruleBy g) × (2 ≤ also) ⌝ }
+    ensures { λ r. ⌜ IsSet (jobOf (now (m .entry))) (now (table .entry)) n k g also r ⌝ }
+{
+    let mut marks = [also; 256];
+    for i in 0..fragment_size(m, n) {
+        let s = fragment_state(m, n, i);
+        let at = place(m, n, s);
+        let own = cell(m, table, n, s, k);
+        let starts = cell(m, table, n, s, g.start);
+        let grows = cell(m, table, n, s, g.grow);
+        marks[s] = mark(also, g.value, at, own, starts, grows);
+    }
+    spread(m, n, g.all, &mut marks);
+    marks
+}
+
+// Whether the fragment has a state whose cell of subformula k is empty.
+fn has_empty(m: &Image, table: &[u8], n: usize, k: usize) -> bool
+    requires { ⌜ Lent (now m) (now table) ⌝ }
+    requires { ⌜ (n < jobOf (now m) .nodes) × (k < subformulaCount (jobOf (now m))) ⌝ }
+    ensures { λ r. ⌜ r ≡ hasEmpty (jobOf (now (m .entry))) (now (table .entry)) n k ⌝ }
+{
+    for i in 0..fragment_size(m, n) {
+        let s = fragment_state(m, n, i);
+        if cell(m, table, n, s, k) == 2 {
+            return true;
+        }
+    }
+    false
+}
+
+// A state's value by its marks in the end.
+fn set_value(v: u8, small: u8, out: u8) -> u8
+    requires { ⌜ v ≤ 1 ⌝ }
+    ensures { λ r. ⌜ r ≡ setValue v small out ⌝ }
+{
+    if small == 2 {
+        return v;
+    }
+    if out == 2 {
+        return 2;
+    }
+    1 - v
+}
+
+// The empty cells of node n and subformula k take the values of their marks. Returns how many take one.
+fn fill_marked(
+    m: &Image,
+    table: &mut [u8],
+    n: usize,
+    k: usize,
+    v: u8,
+    small: &[u8; 256],
+    out: &[u8; 256],
+) -> usize
+    requires { ⌜ Lent (now m) (now table) ⌝ }
+    requires { ⌜ (n < jobOf (now m) .nodes) × (k < subformulaCount (jobOf (now m))) × (v ≤ 1) ⌝ }
+    ensures { λ r. ⌜
+        Leaves (now (table .entry))
+        (part (jobOf (now (m .entry))) (ofColumn n k) (setValues v (now (small .entry)) (now (out .entry))) (now (table .entry)))
+        (now (table .exit)) r
+        ⌝ }
+{
+    let mut count = 0;
+    for i in 0..fragment_size(m, n) {
+        let s = fragment_state(m, n, i);
+        let value = set_value(v, small[s], out[s]);
+        count += put(m, table, n, s, k, value);
+    }
+    count
+}
+
+// The step of a column by a set rule. A column without an empty cell is not worked.
+pub fn fill_by_sets(m: &Image, table: &mut [u8], n: usize, k: usize, g: Growth) -> usize
+    requires { ⌜ Ready (now m) (now table) ⌝ }
+    requires { ⌜ (n < jobOf (now m) .nodes) × (k < subformulaCount (jobOf (now m))) × InRange k (ruleBy g) ⌝ }
+    ensures { λ r. ⌜ Leaves (now (table .entry)) (stepBy (jobOf (now (m .entry))) n k (ruleBy g) (now (table .entry))) (now (table .exit)) r ⌝ }
+{
+    if !has_empty(m, table, n, k) {
+        return 0;
+    }
+    let small = set_of(m, table, n, k, g, 3);
+    let out = set_of(m, table, n, k, g, 2);
+    fill_marked(m, table, n, k, g.value, &small, &out)
+}
