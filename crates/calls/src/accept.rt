@@ -3,10 +3,9 @@ ghost use mathlib.Core.Path.{_≡_};
 ghost use Rattle.cells.specs.Calls.{Call, answer, after};
 ghost use Rattle.calls.specs.Told.{acceptTold};
 use crate::offer::Message;
-use crate::refusal::by;
-use decoding::read::read_image;
 use job::reading::Refusal;
-use questions::accept_no;
+use questions::ask::Asking;
+use questions::ask::ask;
 use table::cell::put;
 
 // With how many cells are filled, 0 or 1.
@@ -27,20 +26,14 @@ pub fn accept(text: &[u8], table: &mut [u8], node: usize, message: Message) -> D
         ⌝ }
 {
     let mut m = [0u16; 13165];
-    let why = read_image(text, &mut m);
+    let why = ask(
+        text,
+        &mut m,
+        table,
+        Asking::Accept(node, message.state, message.subformula, message.value),
+    );
     if why.number != 0 {
         return Delivered::Refused(why);
-    }
-    let no = accept_no(
-        &m,
-        table,
-        node,
-        message.state,
-        message.subformula,
-        message.value,
-    );
-    if no != 0 {
-        return Delivered::Refused(by(no));
     }
     Delivered::Accepted(put(
         &m,

@@ -5,10 +5,9 @@ ghost use Rattle.job.specs.Job.{decode as jobIn};
 ghost use Rattle.cells.specs.Table.{emptyCells};
 ghost use Rattle.cells.specs.Calls.{Call, answer, after};
 ghost use Rattle.calls.specs.Told.{finishTold, finishRounds};
-use crate::refusal::by;
-use decoding::read::read_image;
 use job::reading::Refusal;
-use questions::table_no;
+use questions::ask::Asking;
+use questions::ask::ask;
 use rounds::finish::Outcome;
 use rounds::finish::finish_table;
 
@@ -24,13 +23,9 @@ pub fn finish(text: &[u8], table: &mut [u8]) -> Finished
     ensures bounded { λ r. ⌜ finishRounds r ≤ emptyCells (jobIn (now (text .entry))) (now (table .entry)) + 1 ⌝ }
 {
     let mut m = [0u16; 13165];
-    let why = read_image(text, &mut m);
+    let why = ask(text, &mut m, table, Asking::Finish);
     if why.number != 0 {
         return Finished::Refused(why);
-    }
-    let no = table_no(&m, table);
-    if no != 0 {
-        return Finished::Refused(by(no));
     }
     Finished::Accepted(finish_table(&m, table))
 }

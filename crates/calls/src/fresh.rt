@@ -3,7 +3,6 @@ ghost use mathlib.Core.Path.{_≡_};
 ghost use Rattle.cells.specs.Calls.{Call, answer, after};
 ghost use Rattle.calls.specs.Told.{freshTold};
 use crate::read::read;
-use crate::refusal::by;
 use job::reading::Reading;
 use job::reading::Refusal;
 use layout::refusal::refused_by;
@@ -24,7 +23,7 @@ pub fn fresh(text: &[u8], table: &mut [u8]) -> Cleared
         return Cleared::Refused(refused_by(reading));
     };
     if table.len() != h.nodes * h.states * h.subformulas {
-        return Cleared::Refused(by(9));
+        return Cleared::Refused(Refusal { number: 9, line: 0 });
     }
     clear(table);
     Cleared::Accepted

@@ -1,5 +1,5 @@
 // The nine calls of document 01, one file each, on a job text and, but for read and line, a lent table of cells. Each takes any bytes and any
-// numbers. A call on a table reads the text, decodes it once, puts its own questions, and then works on the image; fresh needs line 1 alone.
+// numbers. A call on a table puts all its questions, which decode the text once, and then works on the image; fresh needs line 1 alone.
 // A refusal leaves every byte of the table.
 pub mod accept;
 pub mod close;
@@ -9,5 +9,4 @@ pub mod line;
 pub mod look;
 pub mod offer;
 pub mod read;
-pub mod refusal;
 pub mod step;

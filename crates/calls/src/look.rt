@@ -2,10 +2,9 @@
 ghost use mathlib.Core.Path.{_≡_};
 ghost use Rattle.cells.specs.Calls.{Call, answer, after};
 ghost use Rattle.calls.specs.Told.{lookTold};
-use crate::refusal::by;
-use decoding::read::read_image;
 use job::reading::Refusal;
-use questions::look_no;
+use questions::ask::Asking;
+use questions::ask::ask;
 use questions::node_read;
 use table::cell::cell;
 
@@ -21,13 +20,9 @@ pub fn look(text: &[u8], table: &[u8], node: usize, state: usize, subformula: us
     ensures left { λ _. ⌜ now (table .entry) ≡ after (Call.look node state subformula) (now (text .entry)) (now (table .entry)) ⌝ }
 {
     let mut m = [0u16; 13165];
-    let why = read_image(text, &mut m);
+    let why = ask(text, &mut m, table, Asking::Look(node, state, subformula));
     if why.number != 0 {
         return Looked::Refused(why);
-    }
-    let no = look_no(&m, table, node, state, subformula);
-    if no != 0 {
-        return Looked::Refused(by(no));
     }
     Looked::Accepted(cell(&m, table, node_read(node), state, subformula))
 }

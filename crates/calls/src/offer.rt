@@ -2,10 +2,9 @@
 ghost use mathlib.Core.Path.{_≡_};
 ghost use Rattle.cells.specs.Calls.{Call, answer, after};
 ghost use Rattle.calls.specs.Told.{offerTold};
-use crate::refusal::by;
-use decoding::read::read_image;
 use job::reading::Refusal;
-use questions::offer_no;
+use questions::ask::Asking;
+use questions::ask::ask;
 use table::cell::owner_cell;
 
 // What a node tells of a state that it owns.
@@ -26,13 +25,9 @@ pub fn offer(text: &[u8], table: &[u8], state: usize, subformula: usize) -> Offe
     ensures left { λ _. ⌜ now (table .entry) ≡ after (Call.offer state subformula) (now (text .entry)) (now (table .entry)) ⌝ }
 {
     let mut m = [0u16; 13165];
-    let why = read_image(text, &mut m);
+    let why = ask(text, &mut m, table, Asking::Offer(state, subformula));
     if why.number != 0 {
         return Offered::Refused(why);
-    }
-    let no = offer_no(&m, table, state, subformula);
-    if no != 0 {
-        return Offered::Refused(by(no));
     }
     Offered::Accepted(Message {
         state,

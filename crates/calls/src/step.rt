@@ -2,10 +2,9 @@
 ghost use mathlib.Core.Path.{_≡_};
 ghost use Rattle.cells.specs.Calls.{Call, answer, after};
 ghost use Rattle.calls.specs.Told.{stepTold};
-use crate::refusal::by;
-use decoding::read::read_image;
 use job::reading::Refusal;
-use questions::step_no;
+use questions::ask::Asking;
+use questions::ask::ask;
 use stepping::node::step_node;
 
 // With how many cells are filled.
@@ -20,13 +19,9 @@ pub fn step(text: &[u8], table: &mut [u8], node: usize) -> Stepped
     ensures left { λ _. ⌜ now (table .exit) ≡ after (Call.step node) (now (text .entry)) (now (table .entry)) ⌝ }
 {
     let mut m = [0u16; 13165];
-    let why = read_image(text, &mut m);
+    let why = ask(text, &mut m, table, Asking::Step(node));
     if why.number != 0 {
         return Stepped::Refused(why);
-    }
-    let no = step_no(&m, table, node);
-    if no != 0 {
-        return Stepped::Refused(by(no));
     }
     Stepped::Accepted(step_node(&m, table, node))
 }

@@ -1,2 +1,3 @@
 pub mod NoLaws
 pub mod FineLaws
+mod AskedLaws

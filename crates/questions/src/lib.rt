@@ -1,5 +1,5 @@
-// The questions that each call puts behind 1 to 8: one function for a call, which gives the number of the first no, 0 where there is none.
-// Fresh, which decodes nothing, puts its one itself.
+// The questions of the calls on a table. `ask` puts all those of a call, 1 to 8 and then its own, and gives the first refusal. Here is for
+// each call one function that puts its own and gives the number of the first no, 0 where there is none. Fresh puts its one itself.
 ghost use mathlib.Core.Path.{_≡_};
 ghost use mathlib.Core.Bool.{_&&_, _||_};
 ghost use mathlib.Core.List.{[], _∷_};
@@ -24,8 +24,10 @@ use right_cells::cells_right;
 use table::cell::cell;
 use table::cell::owner_cell;
 
+pub mod ask;
+
 // Finish, and before their other questions all calls but fresh: 9 and 10.
-pub fn table_no(m: &Image, table: &[u8]) -> u8
+pub(crate) fn table_no(m: &Image, table: &[u8]) -> u8
     requires { ⌜ IsImage (now m) ⌝ }
     ensures { λ r. ⌜ r ≡ noNumber (ownQuestions Call.finish (jobOf (now (m .entry))) (now (table .entry))) ⌝ }
 {
@@ -38,7 +40,7 @@ pub fn table_no(m: &Image, table: &[u8]) -> u8
     0
 }
 
-pub fn step_no(m: &Image, table: &[u8], node: usize) -> u8
+pub(crate) fn step_no(m: &Image, table: &[u8], node: usize) -> u8
     requires { ⌜ IsImage (now m) ⌝ }
     ensures { λ r. ⌜ r ≡ noNumber (ownQuestions (Call.step node) (jobOf (now (m .entry))) (now (table .entry))) ⌝ }
 {
@@ -77,7 +79,7 @@ fn named_no(m: &Image, s: usize, k: usize) -> u8
     0
 }
 
-pub fn offer_no(m: &Image, table: &[u8], s: usize, k: usize) -> u8
+pub(crate) fn offer_no(m: &Image, table: &[u8], s: usize, k: usize) -> u8
     requires { ⌜ IsImage (now m) ⌝ }
     ensures { λ r. ⌜ r ≡ noNumber (ownQuestions (Call.offer s k) (jobOf (now (m .entry))) (now (table .entry))) ⌝ }
 {
@@ -105,7 +107,7 @@ fn agrees(cell: u8, v: u8) -> bool
     cell == v
 }
 
-pub fn accept_no(m: &Image, table: &[u8], n: usize, s: usize, k: usize, v: u8) -> u8
+pub(crate) fn accept_no(m: &Image, table: &[u8], n: usize, s: usize, k: usize, v: u8) -> u8
     requires { ⌜ IsImage (now m) ⌝ }
     ensures { λ r. ⌜ r ≡ noNumber (ownQuestions (Call.accept n s k v) (jobOf (now (m .entry))) (now (table .entry))) ⌝ }
 {
@@ -139,7 +141,7 @@ pub fn node_read(n: usize) -> usize
     n
 }
 
-pub fn look_no(m: &Image, table: &[u8], n: usize, s: usize, k: usize) -> u8
+pub(crate) fn look_no(m: &Image, table: &[u8], n: usize, s: usize, k: usize) -> u8
     requires { ⌜ IsImage (now m) ⌝ }
     ensures { λ r. ⌜ r ≡ noNumber (ownQuestions (Call.look n s k) (jobOf (now (m .entry))) (now (table .entry))) ⌝ }
 {
@@ -160,7 +162,7 @@ pub fn look_no(m: &Image, table: &[u8], n: usize, s: usize, k: usize) -> u8
     0
 }
 
-pub fn close_no(m: &Image, table: &[u8]) -> u8
+pub(crate) fn close_no(m: &Image, table: &[u8]) -> u8
     requires { ⌜ IsImage (now m) ⌝ }
     ensures { λ r. ⌜ r ≡ noNumber (ownQuestions Call.close (jobOf (now (m .entry))) (now (table .entry))) ⌝ }
 {

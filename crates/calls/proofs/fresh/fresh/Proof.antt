@@ -1,7 +1,6 @@
 -- `fresh`: the reader's refusal, the one question of its own, or the fresh table.
 use Prim.Native.Nat.{_*_, _≤_}
-use mathlib.Core.Path.{_≡_, sym, ap, ap₂, _∙_}
-use Rattle.job.specs.Answer.{refused}
+use mathlib.Core.Path.{_≡_, sym, ap, _∙_}
 use Rattle.text.specs.Field.{Text}
 use Rattle.job.specs.Read.{readTold, readAnswer}
 use Rattle.job.specs.declared.reading.Header.{Header}
@@ -46,12 +45,9 @@ mul-if1-2 c = let small = small-here (c .before .before) in omega arith
 returns-2 : tie.Need-returns-2
 unfolding freshTold
 returns-2 c =
-    let p = c .before .before .before .before in
-    let (told, left) =
+    let p = c .before .before .before in
     fresh-refused (text-of p) _ (text-accepted (text-of p) (header-of p) (told-here p))
-    (λ e. c .before .if1 .taken (e ∙ length-read (text-of p) (header-of p) (told-here p)))
-    in
-    (ap₂ (λ n l. refused n l 0) (c .by .ensures .0) (c .by .ensures .1) ∙ told, left)
+    (λ e. c .if1 .taken (e ∙ length-read (text-of p) (header-of p) (told-here p)))
 
 returns-3 : tie.Need-returns-3
 unfolding freshTold
@@ -66,4 +62,4 @@ returns-3 c =
 pub fresh-spec : {M : Type 1} → statement M
 fresh-spec =
     let first = tie.spec (λ c κs. search needs) (λ c. search needs) (λ c. search needs) (λ c κs. search needs) returns mul-if1 mul-if1-2 in
-    tie.close (first (λ c κs. search needs) returns-2 (λ c κs. search needs) (λ c. search needs) returns-3)
+    tie.close (first returns-2 (λ c κs. search needs) (λ c. search needs) returns-3)

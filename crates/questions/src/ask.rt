@@ -1,0 +1,57 @@
+// All questions of a call on a table: 1 to 8, which every call puts first, and then its own.
+ghost use mathlib.Core.Path.{_≡_};
+ghost use lib.ListN.{replicate};
+ghost use Rattle.job.specs.Question.{noNumber};
+ghost use Rattle.cells.specs.Calls.{ownQuestions};
+ghost use Rattle.image.specs.Image.{IsImage, jobOf};
+ghost use Rattle.questions.specs.Asked.{callOf, Asked};
+use crate::accept_no;
+use crate::close_no;
+use crate::look_no;
+use crate::offer_no;
+use crate::step_no;
+use crate::table_no;
+use decoding::read::read_image;
+use image::image::Image;
+use job::reading::Refusal;
+
+// A call with the numbers passed. Fresh, which decodes nothing, is not among them.
+pub enum Asking {
+    Step(usize),
+    Offer(usize, usize),
+    Accept(usize, usize, usize, u8),
+    Look(usize, usize, usize),
+    Close,
+    Finish,
+}
+
+// The number of the first no to a call's own questions, 0 where there is none.
+fn own_no(m: &Image, table: &[u8], call: Asking) -> u8
+    requires { ⌜ IsImage (now m) ⌝ }
+    ensures { λ r. ⌜ r ≡ noNumber (ownQuestions (callOf call) (jobOf (now (m .entry))) (now (table .entry))) ⌝ }
+{
+    match call {
+        Asking::Step(n) => step_no(m, table, n),
+        Asking::Offer(s, k) => offer_no(m, table, s, k),
+        Asking::Accept(n, s, k, v) => accept_no(m, table, n, s, k, v),
+        Asking::Look(n, s, k) => look_no(m, table, n, s, k),
+        Asking::Close => close_no(m, table),
+        Asking::Finish => table_no(m, table),
+    }
+}
+
+// The refusal by the first question that is answered no, of number 0 where there is none; then m, an array of zeros before, is the image of
+// the text's job.
+pub fn ask(text: &[u8], m: &mut Image, table: &[u8], call: Asking) -> Refusal
+    requires { ⌜ now m ≡ replicate 13165 0 ⌝ }
+    ensures { λ r. ⌜ Asked (callOf call) (now (text .entry)) (now (table .entry)) (now (m .exit)) r ⌝ }
+{
+    let why = read_image(text, m);
+    if why.number != 0 {
+        return why;
+    }
+    Refusal {
+        number: own_no(m, table, call),
+        line: 0,
+    }
+}
