@@ -18,7 +18,7 @@ module _ (c : Call) (x : Text) (t : Table) (m : List ℕ) where
   pub text-asked : (why : Refusal) → ImageRead x m why → (why .number ≡ 0 → ⊥) → Asked c x t m why
   text-asked why read some = record {
     refused-so = λ _. text-refused c x t (why .number) (why .line) 4 (read .refused-so some);
-    taken-so = λ none. absurd (some none);
+    admitted-so = λ none. absurd (some none);
   }
 
   -- none, and r is the number of the first no to the call's own
@@ -27,7 +27,7 @@ module _ (c : Call) (x : Text) (t : Table) (m : List ℕ) where
       let here : r ≡ noNumber (ownQuestions c (decode x) t) = asked ∙ ap (λ J. noNumber (ownQuestions c J t)) (read .denotes) in
       record {
         refused-so = own-refused c x t (read .accepts) r here;
-        taken-so =
+        admitted-so =
             λ none.
             let (told-here, left-here) = own-accepted c x t (read .accepts) r here none in
             record {

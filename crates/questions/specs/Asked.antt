@@ -25,7 +25,7 @@ callOf Finish = finish
 
 module _ (c : Call) (x : Text) (t : Table) (m : List ℕ) where
   -- No question is answered no.
-  pub record Taken : Type 0 where
+  pub record Admitted : Type 0 where
     pub image : IsImage m
     pub denotes : jobOf m ≡ decode x
     pub none-no : 0 ≡ noNumber (ownQuestions c (jobOf m) t)
@@ -34,4 +34,4 @@ module _ (c : Call) (x : Text) (t : Table) (m : List ℕ) where
 
   pub record Asked (why : Refusal) : Type 0 where
     pub refused-so : (why .number ≡ 0 → ⊥) → (refused (why .number) (why .line) (width c) ≡ answer c x t) × (t ≡ after c x t)
-    pub taken-so : why .number ≡ 0 → Taken
+    pub admitted-so : why .number ≡ 0 → Admitted

@@ -8,7 +8,7 @@ use Rattle.cells.specs.Fragment.{inFragment}
 use Rattle.cells.specs.Table.{Table}
 use Rattle.cells.specs.Calls.{Call, width, told, left}
 use Rattle.image.specs.Image.{jobOf}
-use Rattle.questions.specs.Asked.{callOf, Taken}
+use Rattle.questions.specs.Asked.{callOf, Admitted}
 use Rattle.table.specs.Lent.{Ready, IsCell}
 use Rattle.questions.proofs.FineLaws.{accept-fine}
 use Rattle.calls.specs.Told.{acceptTold}
@@ -31,9 +31,9 @@ module _ (c : tie.Else1) where
   abbrev m : List ℕ
   m = c .before .before .ask .last .1 .0
 
-  taken : Taken (Call.accept (start-of .args .node) (start-of .args .message .state) (start-of .args .message .subformula) (start-of .args .message .value)) (start-of .args .text .now) t m
+  taken : Admitted (Call.accept (start-of .args .node) (start-of .args .message .state) (start-of .args .message .subformula) (start-of .args .message .value)) (start-of .args .text .now) t m
   unfolding callOf
-  taken = c .before .before .ask .ensures .taken-so (c .if1 .left)
+  taken = c .before .before .ask .ensures .admitted-so (c .if1 .left)
 
   fine : let a = start-of .args in Ready m t × (IsCell (jobOf m) (a .node) (a .message .state) (a .message .subformula) × (inFragment (jobOf m) (a .node) (a .message .state) ≡ true))
   fine = accept-fine m t (taken .image) 0 refl _ _ _ _ (taken .none-no)

@@ -8,7 +8,7 @@ use Rattle.cells.specs.Close.{smallestOpen}
 use Rattle.cells.specs.Table.{Table}
 use Rattle.cells.specs.Calls.{Call, width}
 use Rattle.image.specs.Image.{jobOf}
-use Rattle.questions.specs.Asked.{callOf, Taken}
+use Rattle.questions.specs.Asked.{callOf, Admitted}
 use Rattle.table.specs.Lent.{Ready}
 use Rattle.questions.proofs.FineLaws.{close-fine}
 use Rattle.calls.specs.Told.{closeTold}
@@ -31,9 +31,9 @@ module _ (c : tie.Else1) where
   abbrev m : List ℕ
   m = c .before .before .ask .last .1 .0
 
-  taken : Taken (Call.close) (start-of .args .text .now) t m
+  taken : Admitted (Call.close) (start-of .args .text .now) t m
   unfolding callOf
-  taken = c .before .before .ask .ensures .taken-so (c .if1 .left)
+  taken = c .before .before .ask .ensures .admitted-so (c .if1 .left)
 
   fine : Ready m t × (smallestOpen (jobOf m) t < subformulaCount (jobOf m))
   fine = close-fine m t (taken .image) 0 refl (taken .none-no)

@@ -6,7 +6,7 @@ use native.Mathlib.Omega.{arith}
 use Rattle.job.specs.Answer.{accepted}
 use Rattle.cells.specs.Table.{Table}
 use Rattle.cells.specs.Calls.{Call, width}
-use Rattle.questions.specs.Asked.{callOf, Taken}
+use Rattle.questions.specs.Asked.{callOf, Admitted}
 use Rattle.table.specs.Lent.{Ready}
 use Rattle.questions.proofs.NoLaws.{table-ready}
 use Rattle.calls.specs.Told.{finishTold, finishRounds}
@@ -31,9 +31,9 @@ module _ (c : tie.Else1) where
   abbrev m : List ℕ
   m = c .before .before .ask .last .1 .0
 
-  taken : Taken (Call.finish) (start-of .args .text .now) t m
+  taken : Admitted (Call.finish) (start-of .args .text .now) t m
   unfolding callOf
-  taken = c .before .before .ask .ensures .taken-so (c .if1 .left)
+  taken = c .before .before .ask .ensures .admitted-so (c .if1 .left)
 
   fine : Ready m t
   fine = table-ready m t (taken .image) 0 (taken .none-no) refl

@@ -6,7 +6,7 @@ use Rattle.job.specs.Answer.{accepted}
 use Rattle.cells.specs.Table.{Table}
 use Rattle.cells.specs.Calls.{Call, width, told, left}
 use Rattle.image.specs.Image.{jobOf}
-use Rattle.questions.specs.Asked.{callOf, Taken}
+use Rattle.questions.specs.Asked.{callOf, Admitted}
 use Rattle.table.specs.Lent.{Ready}
 use Rattle.questions.proofs.FineLaws.{step-fine}
 use Rattle.calls.specs.Told.{stepTold}
@@ -29,9 +29,9 @@ module _ (c : tie.Else1) where
   abbrev m : List ℕ
   m = c .before .before .ask .last .1 .0
 
-  taken : Taken (Call.step (start-of .args .node)) (start-of .args .text .now) t m
+  taken : Admitted (Call.step (start-of .args .node)) (start-of .args .text .now) t m
   unfolding callOf
-  taken = c .before .before .ask .ensures .taken-so (c .if1 .left)
+  taken = c .before .before .ask .ensures .admitted-so (c .if1 .left)
 
   fine : Ready m t × (start-of .args .node < jobOf m .nodes)
   fine = step-fine m t (taken .image) 0 refl _ (taken .none-no)
