@@ -33,8 +33,8 @@ pub record Case : Type 0 where
   pub cells : Table
 
 -- What the program verdict does.
-unfoldable pub ofVerdict : List Call
-ofVerdict = fresh ∷ finish ∷ []
+unfoldable pub verdictCalls : List Call
+verdictCalls = fresh ∷ finish ∷ []
 
 unfoldable pub jobV : String
 jobV = "    2    2    3    2\n    0    1\n    1    1\n    0    1\n    1    0\n    1    0    0\n    1    1    0\n    6    0    1\n"
@@ -58,37 +58,37 @@ unfoldable pub cases : List Case
 cases =
     record {
       job = jobV;
-      calls = ofVerdict;
+      calls = verdictCalls;
       told = (0 ∷ 0 ∷ []) ∷ (0 ∷ 0 ∷ 0 ∷ 3 ∷ 12 ∷ []) ∷ [];
       cells = 1 ∷ 0 ∷ 0 ∷ 1 ∷ 0 ∷ 0 ∷ 1 ∷ 0 ∷ 0 ∷ 1 ∷ 0 ∷ 0 ∷ [];
     }
     ∷ record {
       job = job2;
-      calls = ofVerdict;
+      calls = verdictCalls;
       told = (0 ∷ 0 ∷ []) ∷ (0 ∷ 0 ∷ 1 ∷ 3 ∷ 12 ∷ []) ∷ [];
       cells = 1 ∷ 0 ∷ 1 ∷ 0 ∷ 1 ∷ 1 ∷ 1 ∷ 0 ∷ 1 ∷ 0 ∷ 1 ∷ 1 ∷ [];
     }
     ∷ record {
       job = job3;
-      calls = ofVerdict;
+      calls = verdictCalls;
       told = (0 ∷ 0 ∷ []) ∷ (0 ∷ 0 ∷ 0 ∷ 2 ∷ 6 ∷ []) ∷ [];
       cells = 1 ∷ 0 ∷ 0 ∷ 1 ∷ 0 ∷ 0 ∷ [];
     }
     ∷ record {
       job = job4;
-      calls = ofVerdict;
+      calls = verdictCalls;
       told = (0 ∷ 0 ∷ []) ∷ (0 ∷ 0 ∷ 0 ∷ 2 ∷ 1 ∷ []) ∷ [];
       cells = 0 ∷ [];
     }
     ∷ record {
       job = "";
-      calls = ofVerdict;
+      calls = verdictCalls;
       told = (1 ∷ 1 ∷ []) ∷ (1 ∷ 1 ∷ 0 ∷ 0 ∷ 0 ∷ []) ∷ [];
       cells = [];
     }
     ∷ record {
       job = job6;
-      calls = ofVerdict;
+      calls = verdictCalls;
       told = (7 ∷ 3 ∷ []) ∷ (7 ∷ 3 ∷ 0 ∷ 0 ∷ 0 ∷ []) ∷ [];
       cells = 0 ∷ 0 ∷ 0 ∷ 0 ∷ 0 ∷ 0 ∷ 0 ∷ 0 ∷ 0 ∷ 0 ∷ 0 ∷ 0 ∷ [];
     }
@@ -112,7 +112,7 @@ cases =
     }
     ∷ record {
       job = job10;
-      calls = ofVerdict;
+      calls = verdictCalls;
       told = (0 ∷ 0 ∷ []) ∷ (0 ∷ 0 ∷ 1 ∷ 2 ∷ 12 ∷ []) ∷ [];
       cells = 1 ∷ 0 ∷ 1 ∷ 0 ∷ 1 ∷ 0 ∷ 1 ∷ 0 ∷ 1 ∷ 0 ∷ 1 ∷ 0 ∷ [];
     }

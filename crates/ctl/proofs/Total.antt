@@ -6,7 +6,7 @@ use lib.ListN.{length}
 use Rattle.job.specs.Job.{Structure, Job, size}
 use Rattle.job.specs.Written.{edgeOf, edgeCount, IsJob}
 use Rattle.job.proofs.Successors.{edge-listed, edge-number}
-use Rattle.ctl.specs.Truth.{Leads}
+use Rattle.ctl.specs.Truth.{HasEdge}
 
 -- s is a state of M
 abbrev pub State : Structure → ℕ → Type 0
@@ -14,13 +14,13 @@ State M s = s < length (M .labels)
 
 -- Two demands, apart: the first says what a state is, the second is used only where a walk is continued.
 pub record Total (M : Structure) : Type 0 where
-  pub inside : (s t : ℕ) → Leads M s t → State M s × State M t
+  pub inside : (s t : ℕ) → HasEdge M s t → State M s × State M t
   -- "each state has an edge out"
-  pub onward : (s : ℕ) → State M s → (t : ℕ) × Leads M s t
+  pub onward : (s : ℕ) → State M s → (t : ℕ) × HasEdge M s t
 
 -- A job has both, by its edge lines.
 pub total-job : (J : Job) → IsJob J → Total (J .structure)
-unfolding Leads edgeOf edgeCount size
+unfolding HasEdge edgeOf edgeCount size
 total-job J is =
     record {
       inside = λ s t e.

@@ -15,7 +15,7 @@ use Rattle.job.specs.Written.{Operands}
 use Rattle.job.specs.declared.subformula.Subformula.{Subformula}
 use Rattle.job.specs.declared.subformula.Subformula.the-variants.{Atom, Not, And, Ax, Ex, Au, Eu}
 use Rattle.job.proofs.Successors.{over-all, over-some}
-use Rattle.ctl.specs.Truth.{Predicate, Leads, Walk, Until, meaning, truthUpTo, Holds}
+use Rattle.ctl.specs.Truth.{Predicate, HasEdge, Walk, Until, meaning, truthUpTo, Holds}
 use Rattle.ctl.specs.Labelling.{labelled, labelling, sat}
 use Rattle.ctl.proofs.Total.{State, Total}
 use Rattle.ctl.proofs.Untils.{OnWalks, Decides, walks-reached}
@@ -69,7 +69,7 @@ module _ (M : Structure) (total : Total M) where
   -- Where Bools decide what the operands say, the label decides what the subformula says.
   module _ (holds : ℕ → Predicate) (sat : ℕ → ℕ → Bool) (decides : (a : ℕ) → Decides M (holds a) (sat a)) where
     meaning-label : (g : Subformula) → Decides M (meaning M holds g) (labelled M sat (ruleOf g))
-    unfolding meaning labelled Leads OnWalks
+    unfolding meaning labelled HasEdge OnWalks
     meaning-label (Atom j) s l = (λ h. h, λ h. h)
     meaning-label (Not a) s l = not-decides (holds a s) (sat a s) (decides a s l)
     meaning-label (And a b) s l = (

@@ -8,7 +8,7 @@ use native.Mathlib.Omega.{arith}
 use Rattle.law.proofs.Bool.{split, clash}
 use Rattle.job.specs.Job.{Structure, Quantifier, forAll, exists, over}
 use Rattle.job.proofs.Successors.{over-all, over-some, over-misses}
-use Rattle.ctl.specs.Truth.{Predicate, Leads, Walk, Until}
+use Rattle.ctl.specs.Truth.{Predicate, HasEdge, Walk, Until}
 use Rattle.ctl.specs.Labelling.{reached}
 use Rattle.ctl.proofs.Total.{State, Total}
 use Rattle.ctl.proofs.Walks.{walk-tail, walk-before, walk-state, walk-by, walk-on, until-here, until-later}
@@ -29,7 +29,7 @@ module _
   where
     -- From the set to the walks, by induction over it.
     all-walks : (s : ℕ) → reached M forAll start grow s ≡ true → (w : Walk M s) → Until M A B s w
-    unfolding Leads
+    unfolding HasEdge
     all-walks =
         reached-ind M forAll start grow (λ s. (w : Walk M s) → Until M A B s w)
         (λ s l e w. until-here M A B s w (b s l .1 e))
@@ -39,7 +39,7 @@ module _
         until-later M A B s t w (walk-tail M s w) (λ i. refl) (a s l .1 g) (known t y (walk-tail M s w)))
 
     some-walk : (s : ℕ) → reached M exists start grow s ≡ true → (w : Walk M s) × Until M A B s w
-    unfolding Leads
+    unfolding HasEdge
     some-walk =
         reached-ind M exists start grow (λ s. (w : Walk M s) × Until M A B s w)
         (λ s l e. let w = walk-on M total s l in (w, until-here M A B s w (b s l .1 e)))
@@ -74,13 +74,13 @@ module _
         → reached M q start grow s ≡ true
     until-reached q s w leads u = rw (w .starts) at (walk-back q (u .place) s w leads (u .reached) (u .before))
 
-    some-back : (s t : ℕ) → Leads M s t → Back exists s t
-    unfolding Leads
+    some-back : (s t : ℕ) → HasEdge M s t → Back exists s t
+    unfolding HasEdge
     some-back s t e g h =
         reached-grow M exists start grow s (total .inside s t e .0) g (over-some M s (reached M exists start grow) .1 (t, e, h))
 
-    all-back : (s : ℕ) → State M s → (t : ℕ) × Leads M s t × Back forAll s t
-    unfolding Leads
+    all-back : (s : ℕ) → State M s → (t : ℕ) × HasEdge M s t × Back forAll s t
+    unfolding HasEdge
     all-back s l =
         let set = reached M forAll start grow in
         split (over M forAll s set)

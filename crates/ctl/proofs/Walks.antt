@@ -4,7 +4,7 @@ use Prim.Native.Nat.{ℕ, zero, suc, _<_}
 use mathlib.Core.Path.{_≡_, refl, subst}
 use native.Mathlib.Nat.{not-suc-le-zero, le-of-suc-le-suc}
 use Rattle.job.specs.Job.{Structure}
-use Rattle.ctl.specs.Truth.{Predicate, Leads, Walk, Until}
+use Rattle.ctl.specs.Truth.{Predicate, HasEdge, Walk, Until}
 use Rattle.ctl.proofs.Total.{State, Total}
 
 -- A walk without its first state, and one with a state before it.
@@ -15,10 +15,10 @@ abbrev pub before : ℕ → (ℕ → ℕ) → ℕ → ℕ
 before s at zero = s
 before s at (suc i) = at i
 
-abbrev pub walk-before : (M : Structure) (s t : ℕ) → Leads M s t → Walk M t → Walk M s
+abbrev pub walk-before : (M : Structure) (s t : ℕ) → HasEdge M s t → Walk M t → Walk M s
 walk-before M s t e w = record { at = before s (w .at); starts = refl; steps = steps }
   where
-    steps : (i : ℕ) → Leads M (before s (w .at) i) (w .at i)
+    steps : (i : ℕ) → HasEdge M (before s (w .at) i) (w .at i)
     steps zero = rw (w .starts) e
     steps (suc i) = w .steps i
 
@@ -47,7 +47,7 @@ module _ (M : Structure) (total : Total M) where
 
   pub walk-by :
       (R : ℕ → ℕ → Type 0)
-      → ((s : ℕ) → State M s → (t : ℕ) × Leads M s t × R s t)
+      → ((s : ℕ) → State M s → (t : ℕ) × HasEdge M s t × R s t)
       → (s : ℕ) → State M s
       → (w : Walk M s) × ((i : ℕ) → R (w .at i) (w .at (suc i)))
   walk-by R next s l = (

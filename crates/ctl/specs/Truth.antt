@@ -13,14 +13,14 @@ abbrev pub Predicate : Type 1
 Predicate = ℕ → Type 0
 
 -- t is a successor of s.
-unfoldable pub Leads : Structure → ℕ → ℕ → Type 0
-Leads M s t = edge M s t ≡ true
+unfoldable pub HasEdge : Structure → ℕ → ℕ → Type 0
+HasEdge M s t = edge M s t ≡ true
 
 -- "A walk is an endless sequence of states, each with an edge to the next."
 pub record Walk (M : Structure) (s : ℕ) : Type 0 where
   pub at : ℕ → ℕ
   pub starts : at zero ≡ s
-  pub steps : (i : ℕ) → Leads M (at i) (at (suc i))
+  pub steps : (i : ℕ) → HasEdge M (at i) (at (suc i))
 
 -- "There is a place where b holds and a holds at every earlier place; the place may be s."
 pub record Until (M : Structure) (A : Predicate) (B : Predicate) (s : ℕ) (w : Walk M s) : Type 0 where
@@ -33,8 +33,8 @@ unfoldable pub meaning : Structure → (ℕ → Predicate) → Subformula → Pr
 meaning M holds (Atom j) s = atom M j s ≡ true
 meaning M holds (Not a) s = holds a s → ⊥
 meaning M holds (And a b) s = holds a s × holds b s
-meaning M holds (Ax a) s = (t : ℕ) → Leads M s t → holds a t
-meaning M holds (Ex a) s = (t : ℕ) × Leads M s t × holds a t
+meaning M holds (Ax a) s = (t : ℕ) → HasEdge M s t → holds a t
+meaning M holds (Ex a) s = (t : ℕ) × HasEdge M s t × holds a t
 meaning M holds (Au a b) s = (w : Walk M s) → Until M (holds a) (holds b) s w
 meaning M holds (Eu a b) s = (w : Walk M s) × Until M (holds a) (holds b) s w
 

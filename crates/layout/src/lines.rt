@@ -4,11 +4,10 @@ ghost use mathlib.Core.Bool.{not};
 ghost use Prim.Native.Nat.{_+_, _≤_};
 ghost use lib.ListN.{length};
 ghost use Rattle.law.specs.Bounded.{first};
-ghost use Rattle.text.specs.Field.{Text};
-ghost use Rattle.job.specs.Layout.{states, edges, fieldsOf, lineAt};
 ghost use Rattle.job.specs.Questions.{formedLine};
 ghost use Rattle.job.specs.Leaves.{Fits};
 ghost use Rattle.job.specs.Read.{lineStart, lineLength};
+ghost use Rattle.layout.specs.Lines.{fieldsIn, startOf};
 use crate::head::head;
 use job::reading::Header;
 use job::reading::Reading;
@@ -17,7 +16,7 @@ use text::field::is_formed;
 // How many fields line `number` has, where `pairs` lines behind line 1 have two: a state's or an edge's.
 fn fields_in(pairs: usize, number: usize) -> usize
     requires { ⌜ pairs ≤ 2304 ⌝ }
-    ensures { λ r. ⌜ ((t : Text) → states t + edges t ≡ pairs → r ≡ fieldsOf t number) ⌝ }
+    ensures { λ r. ⌜ r ≡ fieldsIn pairs number ⌝ }
 {
     if number <= 1 {
         return 4;
@@ -31,7 +30,7 @@ fn fields_in(pairs: usize, number: usize) -> usize
 // Where line `number` begins.
 fn line_start(pairs: usize, number: usize) -> usize
     requires { ⌜ (pairs ≤ 2304) × (number ≤ 2337) ⌝ }
-    ensures { λ r. ⌜ ((t : Text) → states t + edges t ≡ pairs → r ≡ lineAt t number) ⌝ }
+    ensures { λ r. ⌜ r ≡ startOf pairs number ⌝ }
 {
     if number <= 1 {
         return 0;

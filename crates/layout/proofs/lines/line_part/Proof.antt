@@ -9,6 +9,7 @@ use Rattle.job.specs.Leaves.{Fits}
 use Rattle.job.specs.declared.reading.Header.{Header}
 use Rattle.job.proofs.LayoutLaws.{head-fits, line-refused, line-none, line-zero, line-past, line-starts, line-has, line-inside}
 use native.Mathlib.Omega.{arith}
+use Rattle.layout.proofs.LinesLaws.{fields-of-line, start-of-line}
 use borrow.Author.Needs.{needs}
 use Rattle.layout.proofs.lines.line_part.Statement.{statement}
 use Rattle.layout.proofs.lines.line_part.Tie as tie
@@ -68,10 +69,10 @@ module _ (c : tie.After-fields-in) where
   number-of = p .before .before .before .before .before .args .number
 
   start-is : c .before .line-start .result ≡ lineAt (text-of p) number-of
-  start-is = let f = fits-here p in c .before .line-start .ensures (text-of p) (omega arith)
+  start-is = let f = fits-here p in c .before .line-start .ensures ∙ start-of-line (text-of p) _ _ (omega arith)
 
   fields-are : c .fields-in .result ≡ fieldsOf (text-of p) number-of
-  fields-are = let f = fits-here p in c .fields-in .ensures (text-of p) (omega arith)
+  fields-are = let f = fits-here p in c .fields-in .ensures ∙ fields-of-line (text-of p) _ _ (omega arith)
 
   inside : c .before .line-start .result + 5 * c .fields-in .result < length (text-of p)
   inside =

@@ -10,6 +10,7 @@ use Rattle.text.specs.Field.{Text, formed}
 use Rattle.job.specs.Layout.{fieldsOf, lineAt}
 use Rattle.job.specs.Questions.{formedLine}
 use Rattle.job.proofs.LayoutLaws.{fields-few, line-inside}
+use Rattle.layout.proofs.LinesLaws.{fields-of-line, start-of-line}
 use borrow.Author.Needs.{needs}
 use native.Mathlib.Omega.{arith}
 use Rattle.layout.proofs.lines.malformed_line.Statement.{statement}
@@ -39,10 +40,10 @@ module _ (c : tie.After-fields-in Inv-loop μ-loop) where
   line-of = c .before .before .before .loop .i
 
   start-is : c .before .line-start .result ≡ lineAt text-of (2 + line-of)
-  start-is = let f = c .before .before .before .before .before .before .before .pre in c .before .line-start .ensures text-of (omega arith)
+  start-is = let f = c .before .before .before .before .before .before .before .pre in c .before .line-start .ensures ∙ start-of-line text-of _ _ (omega arith)
 
   fields-are : c .fields-in .result ≡ fieldsOf text-of (2 + line-of)
-  fields-are = let f = c .before .before .before .before .before .before .before .pre in c .fields-in .ensures text-of (omega arith)
+  fields-are = let f = c .before .before .before .before .before .before .before .pre in c .fields-in .ensures ∙ fields-of-line text-of _ _ (omega arith)
 
   inside : lineAt text-of (2 + line-of) + 5 * fieldsOf text-of (2 + line-of) < length text-of
   inside = line-inside text-of (c .before .before .before .before .before .before .before .args .h) (c .before .before .before .before .before .before .before .pre) (2 + line-of) (omega arith) (omega arith)
