@@ -1,0 +1,9 @@
+pub mod Tree
+pub mod Token
+pub mod Grammar
+pub mod Lines
+pub mod Kept
+pub mod Scan
+pub mod Parse
+pub mod RuleCall
+pub mod RuleJob
