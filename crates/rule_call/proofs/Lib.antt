@@ -1,0 +1,3 @@
+pub mod WritingLaws
+pub mod WholeLaws
+pub mod AnswerLaws

@@ -1,0 +1,4 @@
+pub mod ReadsLaws
+pub mod FormLaws
+pub mod BracketLaws
+pub mod OperatorLaws

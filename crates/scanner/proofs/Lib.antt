@@ -1,0 +1,2 @@
+pub mod LexemeLaws
+pub mod ScanLaws
