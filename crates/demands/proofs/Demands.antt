@@ -1,22 +1,34 @@
--- The demands, sentence by sentence and in their words, each proved by citing what did the work. What a call comes to is said by its function's
--- contract: `Happens l x c t a u`, the call c with text x on table t answers a and leaves u. The words are those of `promises/specs`. Assumes nothing.
-use Prim.Native.Nat.{ℕ}
+-- The demands and what the change requests promise, sentence by sentence and in their words, each proved by citing what did the work. What a call
+-- comes to is said by its function's contract: `Happens l x c t a u`, the call c with text x on table t answers a and leaves u; `Rules l x b a u`,
+-- rule with text x on buffer b answers a and leaves u. The words are those of `promises/specs`. Assumes nothing.
+use Prim.Native.Nat.{ℕ, _≤_}
 use mathlib.Core.Path.{_≡_}
-use mathlib.Core.List.{List, _∷_}
+use mathlib.Core.List.{List, [], _∷_}
 use mathlib.Core.Logic.{_↔_}
+use lib.ListN.{length}
 use Rattle.text.specs.Field.{Text}
-use Rattle.job.specs.Job.{Job, decode}
+use Rattle.job.specs.Job.{Job, Structure, decode}
 use Rattle.job.specs.Answer.{Answer, accepted, refused}
 use Rattle.job.specs.Questions.{textQuestions, Accepted}
 use Rattle.job.specs.Read.{header, lineOf}
+use Rattle.job.specs.Written.{IsJob}
+use Rattle.ctl.proofs.Total.{State, Total, total-job}
 use Rattle.cells.specs.Table.{Table}
 use Rattle.cells.specs.SetRule.{SetRule}
 use Rattle.cells.specs.Calls.{Call, step, finish, questions, width, told}
 use Rattle.cells.specs.Cases.{bytes, jobV, job2, job3}
-use Rattle.promises.specs.Contracts.{Loan, Happens, Reads, HandsBack, Prints, MayHappen}
+use Rattle.rule_text.specs.Tree.{Tree}
+use Rattle.rule_text.specs.Grammar.{Means}
+use Rattle.rule_text.specs.RuleCall.{ruleLines, ruleQuestions, InLimits}
+use Rattle.rule_text.proofs.Reading.{means-one}
+use Rattle.rule_text.proofs.RuleTruth.{rule-truth}
+use Rattle.rule_text.proofs.RuleCallLaws.{rule-same}
+use Rattle.rule_text.proofs.Worked.{exampleRule, example-limits}
+use Rattle.promises.specs.Contracts.{Loan, Happens, Reads, HandsBack, Prints, Rules, PrintsRule, MayHappen}
 use Rattle.promises.specs.Demand1.{AnswersBy}
 use Rattle.promises.specs.Demand2.{Accepts, JobText, FilledByRules, SmallestAndLargest, Judged}
 use Rattle.promises.specs.Demand3.{FreshFor, ListOfCalls, leftBy, AsDefined, CellsTrue, OneMoreFinish, OneMachine}
+use Rattle.promises.specs.RuleText.{LinesWritten, LastLineIsTruth, LinesInOrder, InJob, SameRule, RulePrinted}
 use Rattle.demands.specs.Functions.{AsksNothing, Proved}
 use Rattle.demands.proofs.Proved.{asks-nothing, proved}
 use Rattle.promises.proofs.Contracts.{back-defined, may-happen}
@@ -25,6 +37,7 @@ use Rattle.promises.proofs.Reading.{reads-first, reads-exact}
 use Rattle.promises.proofs.Filled.{happens-filled, sets-are}
 use Rattle.promises.proofs.Ends.{calls-defined, calls-cells, calls-finish, fresh-finish, same-verdict}
 use Rattle.promises.proofs.Judged.{prints-judged}
+use Rattle.promises.proofs.RuleText.{rules-first, rules-stay, rules-exact, rules-written, rules-in-job, means-in-order, prints-rule}
 use Rattle.promises.proofs.Hypotheses.{fresh-for, one-machine, example}
 
 -- Demand 1. "Any bytes and any numbers:
@@ -86,7 +99,54 @@ pub cuttings-agree :
     → v ≡ w
 cuttings-agree = same-verdict
 
--- What is supposed here can be had: what is defined may happen, a table fresh for a text, two cuttings of one machine, a list with messages.
+-- Request (i), rules typed as text. "Errors: [..] asked in this order."
+module _ (l : Loan) (x : Text) (b : List ℕ) where
+  pub rule-reads-or-refuses : (a : Answer) (u : List ℕ) → Rules l x b a u → AnswersBy (ruleQuestions x b) 1 (length (ruleLines x) ∷ []) a
+  rule-reads-or-refuses = rules-first l x b
+
+  pub refused-rule-changes-nothing : (number line others : ℕ) (u : List ℕ) → Rules l x b (refused number line others) u → u ≡ b
+  refused-rule-changes-nothing = rules-stay l x b
+
+  -- "Within the limits below, a text is accepted exactly when the grammar derives it,
+  pub rule-is-exact : (a : Answer) (u : List ℕ) → Rules l x b a u → Accepts a ↔ InLimits x b
+  rule-is-exact = rules-exact l x b
+
+  -- "The answer is the number of lines, the whole rule's being the last." "Bytes after the lines stay."
+  pub rule-writes-its-lines : (a : Answer) (u : List ℕ) → Rules l x b a u → (is : InLimits x b) → LinesWritten (is .tree) b a u
+  rule-writes-its-lines = rules-written l x b
+
+-- it has one reading,
+pub one-reading : (x : Text) (f g : Tree) → Means x f → Means x g → f ≡ g
+one-reading = means-one
+
+-- and its CTL truth is that of the lines."
+pub rule-truth-is-that-of-its-lines : (M : Structure) → Total M → (f : Tree) (s : ℕ) → State M s → LastLineIsTruth M f s
+rule-truth-is-that-of-its-lines = rule-truth
+
+-- "A line equal to an earlier one is not written again", and operands come before what uses them,
+pub lines-in-order : (x : Text) (f : Tree) → Means x f → LinesInOrder f
+lines-in-order = means-in-order
+
+-- so that the lines put into a job are accepted, and the job says of its machine what the rule says.
+pub rule-in-a-job :
+    (l : Loan) (x : Text) (b : List ℕ) (a : Answer) (u : List ℕ)
+    → Rules l x b a u
+    → (is : InLimits x b) (J : Job)
+    → IsJob J
+    → InJob J (is .tree) u
+rule-in-a-job = rules-in-job
+
+-- What the program rule prints: number and lines, and then the lines themselves.
+pub printed-is-the-rule : (l : Loan) (x : Text) (said : List ℕ) → PrintsRule l x said → RulePrinted x said
+printed-is-the-rule = prints-rule
+
+-- Different spellings of one tree come to the same.
+pub spellings-agree :
+    (x y : Text) (f : Tree) → Means x f → Means y f → length x ≤ 512 → length y ≤ 512 → (b : List ℕ) → SameRule x y b
+spellings-agree = rule-same
+
+-- What is supposed here can be had: what is defined may happen, a table fresh for a text, two cuttings of one machine, a list with messages, a
+-- rule within the limits, and structures in which each state has an edge out.
 pub defined-may-happen : (l : Loan) (x : Text) → MayHappen l x
 defined-may-happen = may-happen
 
@@ -98,3 +158,9 @@ two-cuttings = one-machine
 
 pub calls-with-messages : ListOfCalls (bytes job2)
 calls-with-messages = example
+
+pub a-rule-in-limits : (b : List ℕ) → length b ≡ 512 → InLimits exampleRule b
+a-rule-in-limits = example-limits
+
+pub jobs-have-edges-out : (J : Job) → IsJob J → Total (J .structure)
+jobs-have-edges-out = total-job

@@ -9,6 +9,8 @@ use Rattle.calls.proofs.look.look.Met.{met as look-met}
 use Rattle.calls.proofs.close.close.Met.{met as close-met}
 use Rattle.calls.proofs.finish.finish.Met.{met as finish-met}
 use Rattle.verdict_line.proofs.verdict_line.Met.{met as verdict-line-met}
+use Rattle.rule_call.proofs.rule.rule.Met.{met as rule-met}
+use Rattle.rule_output.proofs.rule_output.Met.{met as rule-output-met}
 use Rattle.demands.specs.Functions.{AsksNothing, Proved}
 
 pub asks-nothing : AsksNothing
@@ -24,6 +26,8 @@ asks-nothing =
       close = λ κs a. tt;
       finish = λ κs a. tt;
       verdictLine = λ κs a. tt;
+      rule = λ κs a. tt;
+      ruleOutput = λ κs a. tt;
     }
 
 pub proved : {M : Type 1} → Proved M
@@ -39,4 +43,6 @@ proved =
       close = close-met;
       finish = finish-met;
       verdictLine = verdict-line-met;
+      rule = rule-met;
+      ruleOutput = rule-output-met;
     }

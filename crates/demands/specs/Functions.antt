@@ -32,6 +32,12 @@ use Rattle.calls.proofs.finish.finish.Statement.{statement as finish-meets}
 use Rattle.verdict_line.proofs.verdict_line.Kinds.{ps as verdict-line-takes}
 use Rattle.verdict_line.proofs.verdict_line.Reads.{Asked as verdict-line-asks}
 use Rattle.verdict_line.proofs.verdict_line.Statement.{statement as verdict-line-meets}
+use Rattle.rule_call.proofs.rule.rule.Kinds.{ps as rule-takes}
+use Rattle.rule_call.proofs.rule.rule.Reads.{Asked as rule-asks}
+use Rattle.rule_call.proofs.rule.rule.Statement.{statement as rule-meets}
+use Rattle.rule_output.proofs.rule_output.Kinds.{ps as rule-output-takes}
+use Rattle.rule_output.proofs.rule_output.Reads.{Asked as rule-output-asks}
+use Rattle.rule_output.proofs.rule_output.Statement.{statement as rule-output-meets}
 
 -- "Any bytes and any numbers": no contract asks anything of what is passed.
 pub record AsksNothing : Type 0 where
@@ -45,6 +51,8 @@ pub record AsksNothing : Type 0 where
   pub close : (κs : Lfts 2) (a : Dens κs close-takes) → close-asks κs a
   pub finish : (κs : Lfts 2) (a : Dens κs finish-takes) → finish-asks κs a
   pub verdictLine : (κs : Lfts 1) (a : Dens κs verdict-line-takes) → verdict-line-asks κs a
+  pub rule : (κs : Lfts 2) (a : Dens κs rule-takes) → rule-asks κs a
+  pub ruleOutput : (κs : Lfts 1) (a : Dens κs rule-output-takes) → rule-output-asks κs a
 
 -- "every call ends": each function meets its contract, in every model of Rattle's logic. To meet a contract is, called with what it asks
 -- for, to return, and to leave what it promises (total correctness).
@@ -59,3 +67,5 @@ pub record Proved (M : Type 1) : Type 2 where
   pub close : close-meets M
   pub finish : finish-meets M
   pub verdictLine : verdict-line-meets M
+  pub rule : rule-meets M
+  pub ruleOutput : rule-output-meets M

@@ -2,7 +2,10 @@
 -- happen, and the only one. Assumes nothing.
 use Prim.Native.Nat.{ℕ, _+_, _≤_}
 use mathlib.Core.Path.{_≡_, refl, sym, _∙_}
-use mathlib.Core.List.{List}
+use mathlib.Core.List.{List, [], _∷_}
+use lib.ListN.{length, take}
+use lib.Seq.{take-length}
+use native.Mathlib.Nat.{le-refl}
 use mathlib.Core.Option as opt
 use native.Mathlib.Omega.{arith}
 use denote.Ref.{at-last}
@@ -33,7 +36,12 @@ use Rattle.calls.specs.declared.close.Closed as closed
 use Rattle.rounds.specs.declared.finish.Outcome as outcome
 use Rattle.calls.specs.declared.finish.Finished as finished
 use Rattle.verdict_line.specs.VerdictLine.{verdictLine}
-use Rattle.promises.specs.Contracts.{Loan, Happens, Reads, HandsBack, Prints, MayHappen}
+use Rattle.rule_text.specs.RuleCall.{ruleLines, ruleQuestions, ruleAnswer, ruleBuffer}
+use Rattle.rule_call.specs.Ruled.{ruledTold}
+use Rattle.rule_call.specs.declared.rule.Ruled.{Ruled}
+use Rattle.rule_call.specs.declared.rule.Ruled.the-variants as ruled
+use Rattle.rule_output.specs.RuleOutput.{ruleOutput}
+use Rattle.promises.specs.Contracts.{Loan, Happens, Reads, HandsBack, Prints, Rules, PrintsRule, MayHappen}
 
 module _ (l : Loan) (x : Text) where
   pub happens-defined : (c : Call) (t : Table) (a : Answer) (u : Table) → Happens l x c t a u → (a ≡ answer c x t) × (u ≡ after c x t)
@@ -139,6 +147,25 @@ module _ (l : Loan) (x : Text) where
   defined-happens close t = let (z, is) = close-case t in (z, is, (is, refl))
   defined-happens finish t = let (z, is) = finish-case t in (z, is, (is, (refl, finish-few t z is)))
 
+  -- rule
+  pub rules-defined : (b : List ℕ) (a : Answer) (u : List ℕ) → Rules l x b a u → (a ≡ ruleAnswer x b) × (u ≡ ruleBuffer x b)
+  unfolding Rules
+  rules-defined b a u (r, is, (told, left)) = (sym is ∙ told, left)
+
+  defined-rules : (b : List ℕ) → Rules l x b (ruleAnswer x b) (ruleBuffer x b)
+  unfolding Rules ruleAnswer ruledTold
+  defined-rules b =
+      let qs = ruleQuestions x b in
+      let own = length (ruleLines x) ∷ [] in
+      let answered : (z : Ruled) × (ruledTold z ≡ ruleAnswer x b) =
+      by-refusal qs
+      (λ e. (ruled.Accepted (length (ruleLines x)), sym (answered-none qs 1 own e)))
+      (λ q e.
+      let why : Refusal = record { number = q .number; line = q .line } in
+      (ruled.Refused why, sym (answered-some qs 1 own q e))) in
+      let (z, is) = answered in
+      (z, is, (is, refl))
+
   -- read, line and the printed line
   pub reads-defined : (a : Answer) → Reads l x a → a ≡ readAnswer x
   unfolding Reads
@@ -166,6 +193,16 @@ module _ (l : Loan) (x : Text) where
   unfolding Prints
   prints-defined said told = told
 
+  pub prints-rule-defined : (said : List ℕ) → PrintsRule l x said → said ≡ ruleOutput x
+  unfolding PrintsRule
+  prints-rule-defined said (r, is, (right, inside)) = sym is ∙ right
+
+  defined-prints-rule : PrintsRule l x (ruleOutput x)
+  unfolding PrintsRule
+  defined-prints-rule =
+      let all : take (length (ruleOutput x)) (ruleOutput x) ≡ ruleOutput x = take-length (ruleOutput x) in
+      (record { bytes = ruleOutput x; length = length (ruleOutput x) }, all, (all, le-refl (length (ruleOutput x))))
+
   pub may-happen : MayHappen l x
   unfolding HandsBack Prints
   may-happen =
@@ -174,4 +211,6 @@ module _ (l : Loan) (x : Text) where
         read = defined-reads;
         line = λ n. (at-last (l .text) (partOf x n), refl, refl);
         verdict = refl;
+        rule = defined-rules;
+        printed-rule = defined-prints-rule;
       }

@@ -6,3 +6,4 @@ pub mod Invariant
 pub mod Ends
 pub mod Judged
 pub mod Hypotheses
+pub mod RuleText

@@ -1,9 +1,10 @@
--- The contracts of the nine calls and of the line that `verdict` prints, as statements about what is passed and what comes of it. `Learnt` of a
+-- The contracts of the calls, of rule and of what `verdict` and `rule` print, as statements about what is passed and what comes of it. `Learnt` of a
 -- function is what its `ensures` clauses promise a caller, `Asked` what its `requires` clauses ask, as the toolchain reads them off the
 -- source: of the lifetimes, the arguments, the result, and the arguments at exit. Assumes nothing.
 use Prim.Native.Nat.{ℕ}
 use mathlib.Core.Path.{_≡_}
 use mathlib.Core.List.{List}
+use lib.ListN.{take}
 use contract.Lifetimes.{Lfts}
 use denote.Ref.{RefT, at-last}
 use Rattle.text.specs.Field.{Text}
@@ -22,6 +23,11 @@ use Rattle.calls.specs.declared.look.Looked.{Looked}
 use Rattle.calls.specs.declared.close.Closed.{Closed}
 use Rattle.calls.specs.declared.finish.Finished.{Finished}
 use Rattle.verdict_line.specs.VerdictLine.{verdictLine}
+use Rattle.rule_text.specs.RuleCall.{ruleAnswer, ruleBuffer}
+use Rattle.rule_call.specs.Ruled.{ruledTold}
+use Rattle.rule_call.specs.declared.rule.Ruled.{Ruled}
+use Rattle.rule_output.specs.RuleOutput.{ruleOutput}
+use Rattle.rule_output.specs.declared.Output.{Output}
 use Rattle.calls.proofs.read.read.Reads as reading
 use Rattle.calls.proofs.line.line.Reads as lining
 use Rattle.calls.proofs.fresh.fresh.Reads as clearing
@@ -32,8 +38,10 @@ use Rattle.calls.proofs.look.look.Reads as looking
 use Rattle.calls.proofs.close.close.Reads as closing
 use Rattle.calls.proofs.finish.finish.Reads as finishing
 use Rattle.verdict_line.proofs.verdict_line.Reads as printing
+use Rattle.rule_call.proofs.rule.rule.Reads as ruling
+use Rattle.rule_output.proofs.rule_output.Reads as outputting
 
--- How text and table are lent. Contracts speak only of the values behind the references.
+-- How text and table, or buffer, are lent. Contracts speak only of the values behind the references.
 pub record Loan : Type 0 where
   -- for how long, and by which references
   pub lifetimes : Lfts 2
@@ -93,9 +101,25 @@ module _ (l : Loan) (x : Text) where
   unfoldable pub Prints : List ℕ → Type 0
   Prints said = printing.Learnt (l .lifetimes .0, tt) (text, tt) said (text, tt)
 
+  -- rule with rule text x and the buffer b, lent as a table is, may answer a and leave the buffer u
+  unfoldable pub Rules : List ℕ → Answer → List ℕ → Type 0
+  Rules b a u =
+      (r : Ruled)
+      × (ruledTold r ≡ a)
+      × ruling.Learnt (l .lifetimes) (text, (table b, tt)) r (text, (table u, tt))
+
+  -- the program rule may print these bytes of its input
+  unfoldable pub PrintsRule : List ℕ → Type 0
+  PrintsRule said =
+      (r : Output)
+      × (take (r .length) (r .bytes) ≡ said)
+      × outputting.Learnt (l .lifetimes .0, tt) (text, tt) r (text, tt)
+
 -- Whatever is lent, what is defined may happen.
 pub record MayHappen (l : Loan) (x : Text) : Type 0 where
   pub call : (c : Call) (t : Table) → Happens l x c t (answer c x t) (after c x t)
   pub read : Reads l x (readAnswer x)
   pub line : (n : ℕ) → HandsBack l x n (lineOf x n)
   pub verdict : Prints l x (verdictLine x)
+  pub rule : (b : List ℕ) → Rules l x b (ruleAnswer x b) (ruleBuffer x b)
+  pub printed-rule : PrintsRule l x (ruleOutput x)
