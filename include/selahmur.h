@@ -1,5 +1,5 @@
 /*
- * selahmur.h: the nine calls of Selahmur for programs in C.
+ * selahmur.h: the ten calls of Selahmur for programs in C.
  *
  *     rt staticlib selahmur                       writes target/staticlib/libselahmur.a
  *     cc -Iinclude service.c target/staticlib/libselahmur.a
@@ -8,21 +8,22 @@
  * subformula, nodes * states * subformulas in all (at most 65,536), and the cell of a node n, a state s and a subformula k is byte
  * (n * states + s) * subformulas + k: 0 false, 1 true, 2 empty. `selahmur_read` tells the sizes, the caller lends the table, and
  * `selahmur_fresh` makes it fresh. From then on steps, messages and closes come in any order, and `selahmur_finish` gives the verdict.
- * examples/service.c does so from beginning to end.
+ * examples/service.c does so from beginning to end. `selahmur_rule` takes no job: it makes the lines at the end of one from a formula that is
+ * typed. examples/rule.c puts a job together with them.
  *
- * What is passed. Any bytes as the text, any bytes as the table, any numbers: what does not fit is refused. Each array is a pointer and the
- * number of its elements. The pointer may not be null, even where that number is 0, and the arrays of one call may not overlap. The text is
- * only read; so is the table by offer and look.
+ * What is passed. Any bytes as the text, any bytes as the table or the buffer, any numbers: what does not fit is refused. Each array is a
+ * pointer and the number of its elements. The pointer may not be null, even where that number is 0, and the arrays of one call may not overlap.
+ * The text is only read; so is the table by offer and look.
  *
  * What is answered. Every call stores all numbers of its answer into `answer`, which the caller lends: the number of the refusal or
  * SELAHMUR_ACCEPTED, the line that the refusal is about, then the call's own numbers. (`selahmur_line` alone is never refused and has only
- * numbers of its own.) A refusal tells 0 in all of the call's own numbers and leaves every byte of the table. An array that is too short takes
- * as many numbers as fit, nothing is ever written behind it, and what lies behind the last number of a longer one stays. The constants
- * SELAHMUR_..._NUMBERS say how long an array takes the whole answer.
+ * numbers of its own.) A refusal tells 0 in all of the call's own numbers and leaves every byte of the table or the buffer. An array that is too
+ * short takes as many numbers as fit, nothing is ever written behind it, and what lies behind the last number of a longer one stays. The
+ * constants SELAHMUR_..._NUMBERS say how long an array takes the whole answer.
  *
- * Nothing is kept between calls, nothing is allocated and no file is touched, so threads may call at once, each on a table of its own.
- * Calls on one table come one after the other. A call uses some 100 KB of the calling thread's stack at most, whatever the job: close has a
- * copy of the table there.
+ * Nothing is kept between calls, nothing is allocated and no file is touched, so threads may call at once, each on a table or a buffer of its
+ * own. Calls on one table come one after the other. A call uses some 100 KB of the calling thread's stack at most, whatever the job: close has a
+ * copy of the table there. Rule uses half a KB for each bracket that is open, some 270 KB at most.
  *
  * Every function is proved to give the numbers and the bytes that the specification gives, for whatever is passed.
  */
@@ -59,7 +60,10 @@ enum {
     SELAHMUR_OTHER_VALUE = 17,      /* the cell is filled with the other value */
     SELAHMUR_OUTSIDE_FRAGMENT = 18, /* the state is not in the node's fragment */
     SELAHMUR_NOT_SETTLED = 19,      /* a step or a message would still fill a cell */
-    SELAHMUR_NOTHING_OPEN = 20      /* every owner's cell is filled */
+    SELAHMUR_NOTHING_OPEN = 20,     /* every owner's cell is filled */
+    SELAHMUR_BUFFER_LENGTH = 21,    /* the buffer has not 512 bytes */
+    SELAHMUR_BAD_RULE = 22,         /* the rule text has over 512 bytes, or is not in the grammar */
+    SELAHMUR_TOO_MANY_LINES = 23    /* the rule has more than 32 lines */
 };
 
 /* How many numbers each call's answer has. */
@@ -73,11 +77,15 @@ enum {
     SELAHMUR_LOOK_NUMBERS = 3,
     SELAHMUR_CLOSE_NUMBERS = 4,
     SELAHMUR_FINISH_NUMBERS = 5,
+    SELAHMUR_RULE_NUMBERS = 3,
     SELAHMUR_MOST_NUMBERS = 6 /* room for any answer */
 };
 
 /* Look: no node is named. */
 enum { SELAHMUR_NO_NODE = 255 };
+
+/* Rule: the bytes of the buffer, and of one line in it. */
+enum { SELAHMUR_RULE_BUFFER = 512, SELAHMUR_RULE_LINE = 16 };
 
 /* Reads the job. Refusals 1 to 8.
  * Answer: number, line, states, edges, subformulas, nodes. */
@@ -120,6 +128,14 @@ void selahmur_close(const uint8_t *text, size_t text_length, uint8_t *table, siz
  * Answer: number, line, the verdict (1 yes, 0 no), the rounds done with that last one, how many cells are filled. */
 void selahmur_finish(const uint8_t *text, size_t text_length, uint8_t *table, size_t table_length, size_t *answer,
                      size_t answer_length);
+
+/* Reads a rule as text, of at most 512 bytes, and writes its lines, a job's subformula lines, from the start of the buffer on, which has exactly
+ * 512 bytes. Each line takes 16 bytes, byte 10 among them; the last one is the whole rule's. Bytes behind the lines stay. Refusals 21 to 23.
+ * Atoms are p0 to p15. Prefix !, AX and EX bind tightest, then come &, | and =>, weaker in this order; & and | group to the left, => to the
+ * right. A[f U g], E[f U g] and (f) are closed forms. f | g becomes not(not f and not g), and f => g becomes not(f and not g). Spaces may stand
+ * before, between and after tokens and must stand between two of letters or digits; nothing else may, byte 10 neither.
+ * Answer: number, line (0), how many lines. */
+void selahmur_rule(const uint8_t *text, size_t text_length, uint8_t *buffer, size_t buffer_length, size_t *answer, size_t answer_length);
 
 #ifdef __cplusplus
 }

@@ -8,17 +8,20 @@ functions of include/selahmur.h, and after every call compares every number of
 the answer and every byte of the table with the model's.  The text has to stay,
 and so have the bytes around text, table and answer, and the answer's array
 behind the last number.  That array is too short, just long enough or longer.
+Where `rule` is called, the table is the buffer that is lent to it.
 
 A list is a job and a table on which it goes on.  Honest lists play the workers
 from a fresh table to a full one, with messages that come late, twice, or after
 the step that they would have spared.  Others start from any table.  In all of
 them come damaged texts, other jobs' texts, tables of a wrong length or with
-wrong bytes, and numbers out of range.  Each of COUNT draws is some lists of
-small jobs; the jobs at the limits come besides.
+wrong bytes, and numbers out of range, and rule texts, in the grammar and not.
+Each of COUNT draws is some lists of small jobs and some rules; the jobs at the
+limits and every rule text of up to four tokens come besides.
 
 It counts too, and fails where a call is never accepted, or where a number that
-a call can refuse with never comes.  examples/service.c is compiled with the
-header and has to print what the model says of the same calls.
+a call can refuse with never comes.  The worked examples are compiled with the
+header: examples/service.c has to print what the model says of the same calls,
+and examples/rule.c the CTL truth of a rule that is typed.
 """
 
 from __future__ import annotations
@@ -46,18 +49,26 @@ from typing import Iterator
 import checker
 import damaged
 import generate
+import rule_texts
+import rules
 import tables
 from checker import EMPTY
 
 ROOT = pathlib.Path(__file__).parents[1]
 HEADER = ROOT / "include" / "selahmur.h"
-SERVICE = ROOT / "examples" / "service.c"
+EXAMPLES = ROOT / "examples"
 
 SECONDS = 60
 """How long the library may take for one call."""
 
 SHOWN = 3
 """How many differences are printed in full, those with the shortest texts."""
+
+NUMBERS = {"read": 0, "line": 1, **tables.NUMBERS, "rule": 0}
+"""How many numbers each call takes."""
+
+TEXT_ALONE = ("read", "line")
+"""The calls that are lent a text and nothing else."""
 
 TEXT_QUESTIONS = [0, 1, 2, 3, 4, 5, 6, 7, 8]
 QUESTIONS = {
@@ -69,6 +80,7 @@ QUESTIONS = {
     "look": [*TEXT_QUESTIONS, 9, 10, 11, 12, 18],
     "close": [*TEXT_QUESTIONS, 9, 10, 19, 20],
     "finish": [*TEXT_QUESTIONS, 9, 10],
+    "rule": [0, 21, 22, 23],
 }
 """The numbers that each call can give ("Read puts 1 to 8; ...")."""
 
@@ -78,6 +90,7 @@ TOLD = {
     "look": ["cell 0", "cell 1", "cell 2"],
     "offer": ["value 0", "value 1"],
     "finish": ["verdict 0", "verdict 1"],
+    "rule": [f"lines {count}" for count in range(1, rules.MOST + 1)],
 }
 """What an accepted call can say, and must have said at least once."""
 
@@ -128,6 +141,8 @@ def model(case: Case) -> tuple[list[int], bytes]:
         return list(checker.read(case.text)), case.table
     if case.name == "line":
         return line_place(case.text, *case.numbers), case.table
+    if case.name == "rule":
+        return rules.rule(case.text, case.table)
     return getattr(checker, case.name)(case.text, case.table, *case.numbers)
 
 
@@ -176,7 +191,7 @@ def header_wrong() -> Iterator[str]:
     """The header names every number of a refusal, and each once."""
     found = re.findall(r"^    SELAHMUR_(\w+) = (\d+)", HEADER.read_text(), re.M)
     numbers = [int(n) for name, n in found if not name.endswith("_NUMBERS")]
-    if numbers != list(range(21)):
+    if numbers != list(range(24)):
         yield f"the header's refusals are {numbers}"
 
 
@@ -219,12 +234,11 @@ class Library:
         loaded = ctypes.CDLL(str(compiled(["-shared", *whole], where / "selahmur.so")))
         size, array = ctypes.c_size_t, [ctypes.c_void_p, ctypes.c_size_t]
         self.functions = {}
-        for name in ["read", "line", *tables.NUMBERS]:
-            count = {"read": 0, "line": 1, **tables.NUMBERS}[name]
+        for name, count in NUMBERS.items():
             numbers = [size] * count
             if name == "accept":
                 numbers[-1] = ctypes.c_uint8
-            lent = array if name in ("read", "line") else array * 2
+            lent = array if name in TEXT_ALONE else array * 2
             function = getattr(loaded, f"selahmur_{name}")
             function.argtypes = [*lent, *numbers, *array]
             function.restype = None
@@ -235,7 +249,7 @@ class Library:
     def call(self, case: Case) -> tuple[list[int], bytes, list[str]]:
         """Make the call: the array, the table, and what else is wrong."""
         lent = [self.text.lend(case.text), len(case.text)]
-        if case.name not in ("read", "line"):
+        if case.name not in TEXT_ALONE:
             lent += [self.table.lend(case.table), len(case.table)]
         else:
             self.table.lend(case.table)
@@ -341,10 +355,10 @@ class Comparison:
 
     def show(self) -> None:
         """Print the counts, and the differences with the shortest texts."""
-        for name in ["read", "line", *tables.NUMBERS]:
+        for name in NUMBERS:
             said = {key: n for (of, key), n in self.counts.items() if of == name}
             numbers = sorted(key for key in said if isinstance(key, int))
-            words = sorted(key for key in said if isinstance(key, str))
+            words = [key for key in TOLD.get(name, []) if key in said]
             parts = [f"{key}: {said[key]}" for key in [*numbers, *words]]
             print(f"{name}: {', '.join(parts)}")
         self.differences.sort(key=lambda one: (len(one.case.text), len(one.case.table)))
@@ -434,7 +448,7 @@ class Play:
         """A call that is not the list's: with another text or another table, or
         one that would end the list or fill a cell with a lie, set aside."""
         name = self.rng.choice([*tables.NUMBERS])
-        way = self.rng.randrange(6)
+        way = self.rng.randrange(7)
         if way == 0:
             text = self.spoilt()
             self.call(name, *self.numbers(name), text=text)
@@ -450,6 +464,9 @@ class Play:
             self.aside(name, other, *self.numbers(name))
         elif way == 3:
             self.line()
+        elif way == 4:
+            rule_call(self.comparison, self.rng.choice([self.text, self.spoilt()]))
+            rule_call(self.comparison, some_rule(self.rng), self.table)
         elif name in ("step", "offer", "look", "close"):
             self.call(name, *self.numbers(name))
         else:
@@ -592,6 +609,63 @@ class Play:
             self.call(name, *self.numbers(name), text=self.rng.choice([None, text]))
 
 
+# --------------------------------------------------------------------------
+# Rule texts
+# --------------------------------------------------------------------------
+
+
+def some_rule(rng: random.Random) -> bytes:
+    """A rule as text."""
+    return rule_texts.spelled(rng, rule_texts.some_tree(rng))
+
+
+def some_buffer(rng: random.Random) -> bytes:
+    """A buffer to lend, of any content and mostly of the right length."""
+    right = rules.ROOM
+    others = [0, 16, right - 1, right + 1, 2**16 + right, rng.randrange(2 * right)]
+    return rng.randbytes(rng.choice(others) if rng.randrange(8) == 0 else right)
+
+
+def rule_call(comparison: Comparison, text: bytes, buffer: bytes | None = None) -> None:
+    """The call rule, on a buffer of its own where none is passed."""
+    lent = some_buffer(comparison.rng) if buffer is None else buffer
+    comparison.call("rule", text, lent, ())
+
+
+def told_rules(comparison: Comparison) -> None:
+    """Texts that come with their answers, and every text of up to four tokens,
+    with spaces and without."""
+    told = [*rule_texts.ACCEPTED, *rule_texts.limits()]
+    texts = [*(one.text for one in told), *rule_texts.REFUSED]
+    for text in texts:
+        rule_call(comparison, text)
+    for count in range(5):
+        for tokens in rule_texts.short(count):
+            texts += [rule_texts.spaced(tokens), rule_texts.together(tokens)]
+    for text in texts:
+        rule_call(comparison, text, comparison.rng.randbytes(rules.ROOM))
+    for text, buffer in rule_texts.chosen():
+        rule_call(comparison, text, buffer)
+
+
+def drawn_rules(comparison: Comparison) -> None:
+    """Rules in three spellings, one with a prefix more and more often, and
+    damages of them."""
+    rng = comparison.rng
+    tree = rule_texts.some_tree(rng)
+    texts = [*rule_texts.spellings(rng, tree), *rule_texts.spoilt(rng, tree)]
+    text = some_rule(rng)
+    for count in range(34):
+        texts.append(rng.choice([b"!", b"AX ", b"EX "]) * count + b"(" + text + b")")
+    for text in [*texts, *rule_texts.noise(rng, 2)]:
+        rule_call(comparison, text)
+
+
+# --------------------------------------------------------------------------
+# All lists
+# --------------------------------------------------------------------------
+
+
 def large_list(play: Play) -> None:
     """A few calls of every name on a large job, from a fresh table and from any."""
     play.begin()
@@ -640,10 +714,12 @@ def small_lists(comparison: Comparison, i: int) -> None:
         Play(comparison, long).honest(2, 12)
     if i % 8 == 4:
         Play(comparison, generate.tangled(rng, 40, 20, 8)).honest(3, 12)
+    drawn_rules(comparison)
 
 
 def lists(comparison: Comparison, count: int) -> None:
-    """All lists: small jobs, and now and then the large ones."""
+    """All lists: small jobs and rules, and now and then the large ones."""
+    told_rules(comparison)
     for i in range(count):
         if i % 100 == 0:
             large_lists(comparison)
@@ -651,8 +727,31 @@ def lists(comparison: Comparison, count: int) -> None:
 
 
 # --------------------------------------------------------------------------
-# The worked example in C
+# The worked examples in C
 # --------------------------------------------------------------------------
+
+
+def example(name: str, archive: str, where: pathlib.Path) -> pathlib.Path:
+    """Compile one with the header."""
+    strict = ["-std=c99", "-pedantic", "-Wall", "-Wextra", "-Werror"]
+    source = EXAMPLES / f"{name}.c"
+    include = f"-I{HEADER.parent}"
+    return compiled([*strict, include, str(source), archive], where / name)
+
+
+def example_wrong(
+    program: pathlib.Path, text: bytes, others: list[bytes], told: tuple[str, int]
+) -> Iterator[str]:
+    """Run one on a job and further arguments, and compare what it prints and
+    its exit status."""
+    file = program.with_suffix(".job")
+    file.write_bytes(text)
+    command = [program, file, *others]
+    run = subprocess.run(command, capture_output=True, timeout=SECONDS)
+    said = run.stdout.decode("latin-1"), run.returncode
+    if said != told:
+        yield f"{program.name} says {said} of {others}, the model {told}"
+        show_text(text)
 
 
 def service_says(text: bytes) -> tuple[str, int]:
@@ -697,22 +796,51 @@ def service_says(text: bytes) -> tuple[str, int]:
 def service_wrong(
     rng: random.Random, archive: str, where: pathlib.Path
 ) -> Iterator[str]:
-    """Compile the example and run it on jobs, damaged ones among them."""
-    strict = ["-std=c99", "-pedantic", "-Wall", "-Wextra", "-Werror"]
-    include = f"-I{HEADER.parent}"
-    program = compiled([*strict, include, str(SERVICE), archive], where / "service")
-    texts = [path.read_bytes() for path in sorted(SERVICE.parent.glob("*.job"))]
+    """Compile examples/service.c and run it on jobs, damaged ones among them."""
+    program = example("service", archive, where)
+    texts = [path.read_bytes() for path in sorted(EXAMPLES.glob("*.job"))]
     for _ in range(6):
         job = generate.tangled(rng, 6, 10, 4)
         texts += [job.text(), generate.picture(rng).text(), damaged.spoilt(rng, job)]
     for text in texts:
-        (where / "job").write_bytes(text)
-        command = [program, where / "job"]
-        run = subprocess.run(command, capture_output=True, timeout=SECONDS)
-        said = run.stdout.decode("latin-1"), run.returncode
-        if said != service_says(text):
-            yield f"the service says {said}, the model {service_says(text)}"
-            show_text(text)
+        yield from example_wrong(program, text, [], service_says(text))
+
+
+def yes_or_no(verdict: bool) -> tuple[str, int]:
+    """What examples/rule.c must print for a verdict, and its exit status."""
+    return ("yes\n", 0) if verdict else ("no\n", 1)
+
+
+def rule_says(text: bytes, rule: bytes) -> tuple[str, int]:
+    """What examples/rule.c must print, and its exit status: the truth of the
+    rule as it is typed, at state 0 of the machine."""
+    number, at, *_ = checker.read(text)
+    if number != 0:
+        return f"the machine is refused: {number}, line {at}\n", 2
+    (number, _, _), _ = rules.rule(rule, bytes(rules.ROOM))
+    if number != 0:
+        return f"the rule is refused: {number}\n", 2
+    return yes_or_no(0 in rules.holding(checker.parse(text), rules.tree(rule)))
+
+
+def rule_wrong(rng: random.Random, archive: str, where: pathlib.Path) -> Iterator[str]:
+    """Compile examples/rule.c and run it: the examples' rules have the verdicts
+    of their jobs; others, damaged ones among them, have theirs by the model."""
+    program = example("rule", archive, where)
+    for path in sorted(EXAMPLES.glob("*.rule")):
+        text = path.with_suffix(".job").read_bytes()
+        told = yes_or_no(path.with_suffix(".line").read_bytes().split()[2] == b"1")
+        rule = path.read_bytes().removesuffix(b"\n")
+        yield from example_wrong(program, text, [rule], told)
+    most = [one.text for one in rule_texts.limits() if one.lines == rules.MOST]
+    pairs = [(generate.full(rng).text(), rng.choice(most))]
+    for _ in range(6):
+        job, tree = generate.picture(rng), rule_texts.some_tree(rng)
+        typed = [*rule_texts.spellings(rng, tree), *rule_texts.spoilt(rng, tree)]
+        pairs += [(job.text(), rule) for rule in typed if 0 not in rule]
+        pairs.append((damaged.spoilt(rng, job), typed[0]))
+    for text, rule in pairs:
+        yield from example_wrong(program, text, [rule], rule_says(text, rule))
 
 
 # --------------------------------------------------------------------------
@@ -735,6 +863,7 @@ def work(chosen: argparse.Namespace, where: pathlib.Path, shared: mmap.mmap) -> 
     comparison.show()
     wrong = [*comparison.missing(), *header_wrong()]
     wrong += service_wrong(rng, chosen.archive, where)
+    wrong += rule_wrong(rng, chosen.archive, where)
     for what in wrong:
         print(f"WRONG: {what}")
     print(

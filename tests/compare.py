@@ -1,63 +1,46 @@
-"""The model of `checker.py` against the project's formal definitions.
+"""The models against the project's formal definitions.
 
-    compare.py CLONE [--seed N] [--count N] [--batch N]
+    compare.py CLONE [--seed N] [--count N] [--texts N] [--batch N]
 
 Takes the cases of `trials.py` (the gate's, where no option says otherwise), lets
-the model answer them, writes them as lists into CLONE/crates/cells/proofs/
-(`RandomCases.antt`, and `Random.antt` with one proposition for several cases:
-what the definitions compute equals what the model said, by `refl`), and runs
-`rt dev cells` there.  A long finish is computed round by round, and the laws of
-`RandomRounds.antt` make its answer of the rounds.  A batch that is not proved is
-halved until the cases that differ are found.  CLONE is changed: give a clone of
-the repository, not the repository.
+the model of `checker.py` answer them, and has the prover compute the definitions
+of the crate cells on them (`prover.py`).  A long finish is computed round by
+round, and the laws of `RandomRounds.antt` make its answer of the rounds.  Then
+the same for rule text, as `compare_rules.py` has it, with TEXTS draws besides.
+CLONE is changed: give a clone of the repository, not the repository.
 
 The cases must show every answer of every call and notice every mutant of
 `mutants.py`; where they do not, the exit status is 1.
-
-The imports and the `unfolding` line are taken from the clone's `Printed.antt`,
-and the definitions that it does not name are added.
 """
 
 from __future__ import annotations
 
 import argparse
 import collections
-import os
 import pathlib
-import random
-import re
-import subprocess
 import sys
-import time
 from dataclasses import dataclass
 from typing import Iterator
 
 import checker
+import compare_rules
 import mutants
 import tables
 import trials
+from prover import (
+    Crate,
+    antt_definition,
+    antt_law,
+    antt_list,
+    antt_numbers,
+    antt_text,
+    plant,
+)
 from trials import Trial
 
 # --------------------------------------------------------------------------
 # Writing cases
 # --------------------------------------------------------------------------
-
-
-def antt_list(items: list[str]) -> str:
-    """A list in antt."""
-    return "(" + " ∷ ".join([*items, "[]"]) + ")"
-
-
-def antt_numbers(numbers: list[int] | bytes) -> str:
-    """A list of numbers in antt."""
-    return antt_list([str(n) for n in numbers])
-
-
-def antt_text(text: bytes) -> str:
-    """A text in antt: quoted where every byte may stand in quotes."""
-    if all(byte == 10 or 32 <= byte < 127 and byte not in b'"\\' for byte in text):
-        return '(bytes "' + text.decode().replace("\n", "\\n") + '")'
-    return antt_numbers(text)
 
 
 @dataclass
@@ -150,18 +133,6 @@ def antt_part(part: Part) -> str:
       tables = {antt_list([antt_numbers(one.table) for one in part.made])};
     }}
 """
-
-
-def antt_definition(name: str, sort: str, value: str) -> str:
-    """A definition that can be unfolded."""
-    return f"unfoldable pub {name} : {sort}\n{name} =\n    {value}\n"
-
-
-def antt_law(name: str, statement: str, proof: str, *unfolding: str) -> str:
-    """A proposition with its proof."""
-    names = dict.fromkeys(unfolding)
-    line = " ".join(names) + "\n" if names else ""
-    return f"\npub {name} : {statement}\n{line}{name} = {proof}"
 
 
 CASES_HEAD = """-- Written by compare.py: cases with the answers of the Python model.
@@ -337,44 +308,14 @@ class WrittenFinish:
         )
 
 
-class Clone:
-    """A clone of the repository, and what is written into it."""
+class Jobs(Crate[Trial]):
+    """The crate that defines the calls on a job."""
 
-    def __init__(self, where: pathlib.Path) -> None:
-        self.where = where
-        self.proofs = where / "crates" / "cells" / "proofs"
-        printed = (self.proofs / "Printed.antt").read_text()
-        self.uses = re.findall(r"^use .*$", printed, re.M)
-        self.unfolding = re.findall(r"^unfolding .*$", printed, re.M)[0]
-        self.unfold_the_rest()
-        lib = self.proofs / "Lib.antt"
-        mods = lib.read_text()
-        for name in ("RandomCases", "RandomRounds", "Random"):
-            if f"mod {name}\n" not in mods:
-                mods += f"pub mod {name}\n"
-        lib.write_text(mods)
-        (self.proofs / "RandomRounds.antt").write_text(ROUNDS)
+    name, below, head = "cells", ["law", "text", "job"], CASES_HEAD
 
-    def unfold_the_rest(self) -> None:
-        """Import and unfold also the definitions that the printed cases do not
-        need: every `unfoldable pub` of law, job and cells."""
-        known: dict[tuple[str, str], str] = {}
-        for module, names in re.findall(r"^use (.*)\.\{(.*)\}", "\n".join(self.uses), re.M):
-            for name in names.split(", "):
-                plain, _, alias = name.partition(" as ")
-                known[module, plain] = alias or plain
-        unfolded = set(self.unfolding.split())
-        for crate in ("law", "job", "cells"):
-            for path in sorted((self.where / "crates" / crate / "specs").glob("*.antt")):
-                own = "·specs" if crate == "cells" else ""
-                module = f"Rattle.{crate}{own}.specs.{path.stem}"
-                for name in re.findall(r"^unfoldable pub (\S+)", path.read_text(), re.M):
-                    alias = known.get((module, name))
-                    if alias is None:
-                        alias = f"{path.stem}-{name}"
-                        self.uses.append(f"use {module}.{{{name} as {alias}}}")
-                    if alias not in unfolded:
-                        self.unfolding += f" {alias}"
+    def __init__(self, clone: pathlib.Path) -> None:
+        super().__init__(clone)
+        self.put("RandomRounds", [ROUNDS])
 
     def write(self, batch: list[Trial]) -> None:
         """The cases and the propositions about them."""
@@ -384,52 +325,23 @@ class Clone:
             own, long = parted(trial)
             parts += own
             finishes += long
-        defined, laws = {}, []
-        for i, group in enumerate(grouped(parts)):
-            name, items = f"cases{i}", antt_list([antt_part(part) for part in group])
-            defined[name] = antt_definition(name, "List Trial", items)
-            statement = f"map recomputed {name} ≡ {name}"
-            unfolding = f"{self.unfolding} tablesAfter recomputed {name}"
-            laws.append(antt_law(f"proved-{name}", statement, "refl", unfolding))
+        groups = [[antt_part(part) for part in group] for group in grouped(parts)]
+        defined, laws = self.computed(groups)
         for i, finish in enumerate(finishes):
             written = WrittenFinish(finish, f"finish{i}")
             defined.update(written.definitions())
             laws += written.rounds(self.unfolding)
             laws += written.sums()
             laws += written.answer(self.unfolding)
-        cases = "\n".join([CASES_HEAD, *defined.values()])
-        (self.proofs / "RandomCases.antt").write_text(cases)
-        imports = ", ".join(["tablesAfter", "recomputed", *defined])
-        head = [
-            "-- Written by compare.py: the definitions give what the model gave.",
-            *self.uses,
-            f"use Rattle.cells.proofs.RandomCases.{{{imports}}}",
-            f"use Rattle.cells.proofs.RandomRounds.{{{ROUND_NAMES}}}",
+        rounds = f"use Rattle.cells.proofs.RandomRounds.{{{ROUND_NAMES}}}"
+        self.put_cases(defined, laws, (rounds,))
+
+    def told(self, case: Trial) -> list[str]:
+        """What the model says of each call."""
+        return [
+            f"{one.name} {one.numbers} {one.answer} {list(one.table)}"
+            for one in case.made()
         ]
-        (self.proofs / "Random.antt").write_text("\n".join([*head, *laws]) + "\n")
-
-    def check(self, batch: list[Trial]) -> tuple[int, str]:
-        """The exit status of `rt dev` with these cases (0: all proved, 1: some
-        case differs, 3: no verdict, for too long), and what it printed."""
-        self.write(batch)
-        ran = subprocess.run(
-            ["rt", "dev", "cells"],
-            cwd=self.where,
-            capture_output=True,
-            text=True,
-            env={**os.environ, "RT_CUT": "0", "RT_JOBS": "1"},
-        )
-        return ran.returncode, f"exit {ran.returncode}\n{ran.stdout}{ran.stderr}"
-
-    def differing(self, batch: list[Trial]) -> list[tuple[Trial, int, str]]:
-        """The cases of a batch that are not proved, found by halving."""
-        status, said = self.check(batch)
-        if status == 0:
-            return []
-        if len(batch) == 1:
-            return [(batch[0], status, said)]
-        middle = len(batch) // 2
-        return self.differing(batch[:middle]) + self.differing(batch[middle:])
 
 
 # --------------------------------------------------------------------------
@@ -456,52 +368,38 @@ def describe(drawn: list[Trial]) -> None:
         print(f"{name}: {answers[name]}")
 
 
+def tell(missing: list[str], noticed: int, given: int) -> None:
+    """What the cases show."""
+    if missing:
+        print("not shown by any case:", missing)
+    else:
+        print(f"all {noticed} mutants noticed, each of {given} answers given")
+
+
 def main() -> int:
     """The program."""
     options = argparse.ArgumentParser(description=__doc__)
     options.add_argument("clone", type=pathlib.Path)
     options.add_argument("--seed", type=int, default=trials.SEED)
     options.add_argument("--count", type=int, default=trials.COUNT)
-    options.add_argument("--batch", type=int, default=120)
-    options.add_argument("--plant", action="store_true", help="make one case wrong")
+    options.add_argument("--texts", type=int, default=0)
+    options.add_argument("--batch", type=int, default=150)
+    options.add_argument("--plant", action="store_true", help="make two cases wrong")
     chosen = options.parse_args()
-    clone = Clone(chosen.clone)
-    drawn = trials.trials(chosen.seed, chosen.count)
-    describe(drawn)
-    missing = trials.missing(drawn)
-    if missing:
-        print("not shown by any case:", missing)
-    else:
-        print(
-            f"all {len(mutants.MODELS)} mutants noticed, each of "
-            f"{len(trials.WANTED)} answers given"
-        )
+    jobs = trials.trials(chosen.seed, chosen.count)
+    describe(jobs)
+    missing = trials.missing(jobs)
+    tell(missing, len(mutants.MODELS), len(trials.WANTED))
+    texts = compare_rules.cases(chosen.seed, chosen.texts)
+    print("rule:", compare_rules.given(texts))
+    unshown = compare_rules.missing(texts)
+    tell(unshown, len(mutants.RULE_MODELS), len(compare_rules.NUMBERS))
     if chosen.plant:
-        at = random.Random(chosen.seed).randrange(len(drawn))
-        drawn[at].lie = True
-        print(f"planted in case {at}")
-    found: list[tuple[Trial, int, str]] = []
-    for start in range(0, len(drawn), chosen.batch):
-        batch = drawn[start : start + chosen.batch]
-        began = time.time()
-        status, _ = clone.check(batch)
-        print(
-            f"cases {start} to {start + len(batch) - 1}: "
-            f"{'proved' if status == 0 else f'NOT PROVED ({status})'}, "
-            f"{time.time() - began:.1f} s",
-            flush=True,
-        )
-        if status != 0:
-            found += clone.differing(batch)
-    for trial, status, said in found:
-        print(f"{'DIFFERS' if status == 1 else 'NO VERDICT'}: case {drawn.index(trial)}")
-        print(trial)
-        for one in trial.made():
-            print("   model:", one.name, one.numbers, one.answer, list(one.table))
-        print("   prover:", said[:2000])
-    differ = sum(status == 1 for _, status, _ in found)
-    print(f"{len(drawn)} cases, {differ} differ, {len(found) - differ} without verdict")
-    return 1 if found or missing else 0
+        plant(jobs, chosen.seed)
+        plant(texts, chosen.seed)
+    found = Jobs(chosen.clone).compare(jobs, chosen.batch)
+    found += compare_rules.RuleText(chosen.clone).compare(texts, chosen.batch)
+    return 1 if found or missing or unshown else 0
 
 
 if __name__ == "__main__":

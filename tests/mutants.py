@@ -2,25 +2,26 @@
 
     mutants.py [--seed N] [--count N]
 
-Each mutant is the model with one place read otherwise.  For each the cases are
-answered again and those that change are counted; a mutant that changes none is
-a gap in the cases.  Without options the cases are the gate's.
+Each mutant is a model, that of checker.py or that of rules.py, with one place
+read otherwise.  For each the cases are answered again and those that change are
+counted; a mutant that changes none is a gap in the cases.  Without options the
+cases are the gate's.
 """
 
 from __future__ import annotations
 
 import argparse
+import itertools
 import pathlib
 import sys
 import types
 from typing import TYPE_CHECKING, Iterable
 
 import checker
+import rules
 
 if TYPE_CHECKING:
     import trials
-
-SOURCE = pathlib.Path(checker.__file__).read_text()
 
 MUTANTS: list[tuple[str, str, str]] = [
     ("restriction of the largest set by subtraction afterwards",
@@ -148,13 +149,201 @@ MUTANTS: list[tuple[str, str, str]] = [
 ]  # fmt: skip
 
 
-def module(name: str, old: str, new: str) -> types.ModuleType:
-    """The model with one place of its source written otherwise."""
-    assert SOURCE.count(old) == 1, (name, SOURCE.count(old))
+RULE_MUTANTS: list[tuple[str, str, str]] = [
+    # The grammar.
+    ("=> groups to the left", '("rule", "either => rule")', '("rule", "rule => either")'),
+    ("& groups to the right", '("both", "both & prefixed")', '("both", "prefixed & both")'),
+    ("| groups to the right", '("either", "either | both")', '("either", "both | either")'),
+    ("=> does not group", '("rule", "either => rule")', '("rule", "either => either")'),
+    ("& and | of one strength, to the left",
+     '("either", "either | both"),\n        ("either", "both"),\n        ("both", "both & prefixed"),\n        ("both", "prefixed")',
+     '("either", "either | prefixed"),\n        ("either", "either & prefixed"),\n        ("either", "prefixed")'),
+    ("| and => of one strength, to the right",
+     '("rule", "either => rule"),\n        ("rule", "either"),\n        ("either", "either | both"),\n        ("either", "both")',
+     '("rule", "both => rule"),\n        ("rule", "both | rule"),\n        ("rule", "both")'),
+    ("| binds tighter than &",
+     '"either | both"),\n        ("either", "both"),\n        ("both", "both & prefixed")',
+     '"either & both"),\n        ("either", "both"),\n        ("both", "both | prefixed")'),
+    ("=> binds tighter than |",
+     '("rule", "either => rule"),\n        ("rule", "either"),\n        ("either", "either | both"),\n        ("either", "both")',
+     '("rule", "rule | either"),\n        ("rule", "either"),\n        ("either", "both => either"),\n        ("either", "both")'),
+    ("=> binds tighter than &",
+     '("rule", "either => rule"),\n        ("rule", "either"),\n        ("either", "either | both"),\n        ("either", "both"),\n        ("both", "both & prefixed"),\n        ("both", "prefixed")',
+     '("rule", "rule | either"),\n        ("rule", "either"),\n        ("either", "either & both"),\n        ("either", "both"),\n        ("both", "prefixed => both"),\n        ("both", "prefixed")'),
+    ("! binds weaker than &",
+     '("either", "both"),\n        ("both", "both & prefixed"),\n        ("both", "prefixed"),\n        ("prefixed", "! prefixed")',
+     '("either", "not"),\n        ("not", "! not"),\n        ("not", "both"),\n        ("both", "both & prefixed"),\n        ("both", "prefixed")'),
+    ("AX binds weaker than &",
+     '("either", "both"),\n        ("both", "both & prefixed"),\n        ("both", "prefixed"),\n        ("prefixed", "! prefixed"),\n        ("prefixed", "AX prefixed")',
+     '("either", "next"),\n        ("next", "AX next"),\n        ("next", "both"),\n        ("both", "both & prefixed"),\n        ("both", "prefixed"),\n        ("prefixed", "! prefixed")'),
+    ("! takes all that follows", '("prefixed", "! prefixed")', '("rule", "! rule")'),
+    ("EX takes all that follows", '("prefixed", "EX prefixed")', '("rule", "EX rule")'),
+    ("! only before a closed form", '"! prefixed"', '"! closed"'),
+    ("AX only before a closed form", '"AX prefixed"', '"AX closed"'),
+    ("EX needs brackets", '"EX prefixed"', '"EX ( rule )"'),
+    ("A[f U g]: f only a closed form", '"A [ rule U rule ]"', '"A [ closed U rule ]"'),
+    ("A[f U g]: g only a closed form", '"A [ rule U rule ]"', '"A [ rule U closed ]"'),
+    ("E[f U g]: f without =>", '"E [ rule U rule ]"', '"E [ either U rule ]"'),
+    ("E[f U g]: g without |", '"E [ rule U rule ]"', '"E [ rule U both ]"'),
+    ("A[f U g U h] let by",
+     '("closed", "A [ rule U rule ]"),', '("closed", "A [ rule U until ]"),\n        ("until", "rule U until"),\n        ("until", "rule"),'),
+    ("A(f U g) let by", '("closed", "( rule )"),', '("closed", "( rule )"),\n        ("closed", "A ( rule U rule )"),'),
+    ("[f] let by", '("closed", "( rule )"),', '("closed", "( rule )"),\n        ("closed", "[ rule ]"),'),
+    ("(f] let by", '("closed", "( rule )"),', '("closed", "( rule )"),\n        ("closed", "( rule ]"),'),
+    ("f U g let by, without A or E", '("closed", "( rule )"),', '("closed", "( rule )"),\n        ("closed", "( rule U rule )"),'),
+    ("() let by", '("closed", "( rule )"),', '("closed", "( rule )"),\n        ("closed", "( )"),'),
+    ("AG let by", '("prefixed", "EX prefixed"),', '("prefixed", "EX prefixed"),\n        ("prefixed", "AG prefixed"),'),
+    ("EG let by", '("prefixed", "EX prefixed"),', '("prefixed", "EX prefixed"),\n        ("prefixed", "EG prefixed"),'),
+    ("&& let by", '("both", "prefixed"),', '("both", "prefixed"),\n        ("both", "both & & prefixed"),'),
+    ("what follows a whole rule let by",
+     "        if action is None:\n            return None\n        states.append(action)",
+     "        if action is None:\n            return values[0] if len(values) == 1 and isinstance(values[0], tuple) else None\n        states.append(action)"),
+    ("a last ) may be missing",
+     "    reading = tree(text)\n", "    reading = tree(text) or tree(text + b')')\n"),
+    ("a last ] may be missing",
+     "    reading = tree(text)\n", "    reading = tree(text) or tree(text + b']')\n"),
+    ("over 100 brackets refused",
+     "    reading = tree(text)\n", "    reading = None if b'(' * 101 in text else tree(text)\n"),
+    ("over 100 prefixes refused with 22",
+     "    reading = tree(text)\n", "    reading = None if b'!' * 101 in text else tree(text)\n"),
+    ("the empty text is a rule of no lines",
+     "    reading = tree(text)\n", "    if not text.strip(b' '):\n        return [0, 0, 0], buffer\n    reading = tree(text)\n"),
+    # The tokens.
+    ("AXp0 let by", 'rb"[A-Za-z0-9]+|=>|[^ ]"', 'rb"[AE]X|[A-Za-z0-9]+|=>|[^ ]"'),
+    ("U run together with its operands let by", 'rb"[A-Za-z0-9]+|=>|[^ ]"', 'rb"[A-TV-Za-z0-9]+|U|=>|[^ ]"'),
+    ("an atom run together with U let by", 'rb"[A-Za-z0-9]+|=>|[^ ]"', 'rb"p[0-9]+|[A-Za-z0-9]+|=>|[^ ]"'),
+    ("a space needed between any two tokens", 'rb"[A-Za-z0-9]+|=>|[^ ]"', 'rb"[^ ]+"'),
+    ("a space needed behind !", 'rb"[A-Za-z0-9]+|=>|[^ ]"', 'rb"!?[A-Za-z0-9]+|=>|[^ ]"'),
+    ("A and [ are one token", 'rb"[A-Za-z0-9]+|=>|[^ ]"', 'rb"[AE] |[A-Za-z0-9]+|=>|[^ ]"'),
+    ("= > let by", "WORDS.findall(text)", "WORDS.findall(re.sub(b'= +>', b'=>', text))"),
+    ("A X let by", "WORDS.findall(text)", "WORDS.findall(re.sub(b'([AE]) +X', rb'\\1X', text))"),
+    ("p 0 let by", "WORDS.findall(text)", "WORDS.findall(re.sub(b'p +', b'p', text))"),
+    ("-> let by", "WORDS.findall(text)", "WORDS.findall(text.replace(b'->', b'=>'))"),
+    ("p16 let by", 'rb"p([0-9]|1[0-5])"', 'rb"p([0-9]|1[0-6])"'),
+    ("p15 refused", 'rb"p([0-9]|1[0-5])"', 'rb"p([0-9]|1[0-4])"'),
+    ("p10 to p15 refused", 'rb"p([0-9]|1[0-5])"', 'rb"p[0-9]"'),
+    ("p00 let by", 'rb"p([0-9]|1[0-5])"', 'rb"p([0-9]|1[0-5]|00)"'),
+    ("p01 let by", 'rb"p([0-9]|1[0-5])"', 'rb"p(0?[0-9]|1[0-5])"'),
+    ("p alone let by", 'rb"p([0-9]|1[0-5])"', 'rb"p([0-9]|1[0-5])?"'),
+    ("p1 read for p10", 'int(tree[0][1:])', 'int(tree[0][1:2])'),
+    ("small letters let by", "WORDS.findall(text)", "WORDS.findall(text.replace(b'P', b'p').replace(b'ax', b'AX').replace(b'u', b'U'))"),
+    ("a tab is a space", 'rb"[A-Za-z0-9]+|=>|[^ ]"', 'rb"[A-Za-z0-9]+|=>|[^ \\t]"'),
+    ("byte 10 is a space", 'rb"[A-Za-z0-9]+|=>|[^ ]"', 'rb"[A-Za-z0-9]+|=>|[^ \\n]"'),
+    ("byte 13 is a space", 'rb"[A-Za-z0-9]+|=>|[^ ]"', 'rb"[A-Za-z0-9]+|=>|[^ \\r]"'),
+    ("byte 160 is a space", 'rb"[A-Za-z0-9]+|=>|[^ ]"', 'rb"[A-Za-z0-9]+|=>|[^ \\xa0]"'),
+    ("a last byte 10 is dropped", "    reading = tree(text)\n", "    reading = tree(text.removesuffix(b'\\n'))\n"),
+    ("byte 0 ends the text", "    reading = tree(text)\n", "    reading = tree(text.split(b'\\0')[0])\n"),
+    ("the eighth bit is dropped", "    reading = tree(text)\n", "    reading = tree(bytes(byte & 127 for byte in text))\n"),
+    ("no space before the first token", "    reading = tree(text)\n", "    reading = None if text[:1] == b' ' else tree(text)\n"),
+    ("no space behind the last token", "    reading = tree(text)\n", "    reading = None if text[-1:] == b' ' else tree(text)\n"),
+    ("one space at most", "    reading = tree(text)\n", "    reading = None if b'  ' in text else tree(text)\n"),
+    # The rule rewritten.
+    ("f | g: f, g, not f, not g",
+     "        return found.setdefault(line, len(found))\n",
+     "        return found.setdefault(line, len(found))\n\n    def operands(tree):\n"
+     "        for f in tree[1:]:\n            operands(f)\n"
+     "        if tree[0] == '|':\n            number(rewritten(tree[1])), number(rewritten(tree[2]))\n\n    operands(tree)\n"),
+    ("f | g: operands exchanged", '("&", ("!", f), ("!", g))', '("&", ("!", g), ("!", f))'),
+    ("f => g as not f | g", '"!", ("&", f, ("!", g))', '"!", ("&", ("!", ("!", f)), ("!", g))'),
+    ("f => g: not g first", '("&", f, ("!", g))', '("&", ("!", g), f)'),
+    ("f => g as not g => not f", '("&", f, ("!", g))', '("&", ("!", g), ("!", ("!", f)))'),
+    ("f => g as g => f", '("&", f, ("!", g))', '("&", g, ("!", f))'),
+    ("!!p0 is p0", "    if len(tree) == 2:\n        return word, f\n",
+     "    if word == f[0] == '!':\n        return f[1]\n    if len(tree) == 2:\n        return word, f\n"),
+    ("p0 & p0 is p0", "    return word, f, g\n", "    return f if word == '&' and f == g else (word, f, g)\n"),
+    ("!AX p0 is EX !p0", "    if len(tree) == 2:\n        return word, f\n",
+     "    if word == '!' and f[0] == 'AX':\n        return 'EX', ('!', f[1])\n    if len(tree) == 2:\n        return word, f\n"),
+    # The lines.
+    ("equal lines written again",
+     "        return found.setdefault(line, len(found))\n\n    number(rewritten(tree))\n    return list(found)",
+     "        written.append(line)\n        return len(written) - 1\n\n    written = []\n    number(rewritten(tree))\n    return written"),
+    ("equal atoms alone left out",
+     "        return found.setdefault(line, len(found))\n\n    number(rewritten(tree))\n    return list(found)",
+     "        if line in written and line[0] == ATOM:\n            return written.index(line)\n        written.append(line)\n        return len(written) - 1\n\n"
+     "    written = []\n    number(rewritten(tree))\n    return written"),
+    ("equal to the line before alone left out",
+     "        return found.setdefault(line, len(found))\n\n    number(rewritten(tree))\n    return list(found)",
+     "        if written[-1:] != [line]:\n            written.append(line)\n        return len(written) - 1\n\n    written = []\n    number(rewritten(tree))\n    return written"),
+    ("lines of one kind and one a are equal",
+     "        return found.setdefault(line, len(found))\n",
+     "        return next((n for other, n in found.items() if other[:2] == line[:2]), None) or found.setdefault(line, len(found))\n"),
+    ("lines with one a and one b are equal",
+     "        return found.setdefault(line, len(found))\n",
+     "        return next((n for other, n in found.items() if other[0] > ATOM and other[1:] == line[1:]), None) or found.setdefault(line, len(found))\n"),
+    ("g & f equal to f & g", "        return found.setdefault(line, len(found))\n",
+     "        if line[0] == AND:\n            line = Rule(AND, min(a, b), max(a, b))\n        return found.setdefault(line, len(found))\n"),
+    ("the right operand's lines first",
+     "            a = number(tree[1])\n            b = number(tree[2]) if len(tree) == 3 else 0\n",
+     "            b = number(tree[2]) if len(tree) == 3 else 0\n            a = number(tree[1])\n"),
+    ("the right operand's lines first for U",
+     "            a = number(tree[1])\n            b = number(tree[2]) if len(tree) == 3 else 0\n",
+     "            until = tree[0] in ('A', 'E')\n            b = number(tree[2]) if until else 0\n"
+     "            a = number(tree[1])\n            b = b if until or len(tree) == 2 else number(tree[2])\n"),
+    ("all atoms first", "    number(rewritten(tree))\n",
+     "    for word in re.findall(\"p[0-9]+\", repr(tree)):\n        number((word,))\n    number(rewritten(tree))\n"),
+    ("the whole rule first", "    return list(found)\n",
+     "    last = len(found) - 1\n    return [Rule(k, a if k == ATOM else last - a, last - b if k in (AND, AU, EU) else 0) for k, a, b in reversed(found)]\n"),
+    ("a and b exchanged", "Rule(KINDS[tree[0]], a, b)", "Rule(KINDS[tree[0]], *((b, a) if len(tree) == 3 else (a, b)))"),
+    ("b = a where it is not used", "if len(tree) == 3 else 0", "if len(tree) == 3 else a"),
+    ("subformulas counted from 1", "Rule(KINDS[tree[0]], a, b)", "Rule(KINDS[tree[0]], a + 1, b + 1 if len(tree) == 3 else 0)"),
+    ("AX and EX exchanged", '"AX": AX, "EX": EX', '"AX": EX, "EX": AX'),
+    ("A and E exchanged", '"A": AU, "E": EU', '"A": EU, "E": AU'),
+    # The questions and the answer.
+    ("512 bytes refused", "LONGEST = 512", "LONGEST = 511"),
+    ("513 bytes let by", "LONGEST = 512", "LONGEST = 513"),
+    ("spaces behind not counted", "len(text) <= LONGEST", "len(text.rstrip(b' ')) <= LONGEST"),
+    ("32 lines refused", "MOST = 32", "MOST = 31"),
+    ("33 lines let by", "MOST = 32", "MOST = 33"),
+    ("23 counts equal lines", "ask(len(found) <= MOST, 23)", "ask(len(re.findall('p|!|AX|EX|&|A|E', repr(rewritten(reading)))) <= MOST, 23)"),
+    ("23 counts the words of the text", "ask(len(found) <= MOST, 23)", "ask(repr(reading).count(\"('\") <= MOST, 23)\n    found = found[:MOST]"),
+    ("22 and 23 are one", "ask(len(found) <= MOST, 23)", "ask(len(found) <= MOST, 22)"),
+    ("23 before 22, by what comes before the mistake", "    ask(reading is not None, 22)\n",
+     "    before = next(filter(None, (tree(text[:n]) for n in range(len(text), 0, -1))), (\"p0\",))\n"
+     "    ask(len(lines(before)) <= MOST, 23)\n    ask(reading is not None, 22)\n"),
+    ("23 before 22, by the length", "    ask(len(text) <= LONGEST, 22)\n    reading = tree(text)\n    ask(reading is not None, 22)\n    found = lines(reading)\n    ask(len(found) <= MOST, 23)\n",
+     "    reading = tree(text)\n    ask(reading is not None, 22)\n    found = lines(reading)\n    ask(len(found) <= MOST, 23)\n    ask(len(text) <= LONGEST, 22)\n"),
+    ("21 after 22", "    ask(len(buffer) == ROOM, 21)\n    ask(len(text) <= LONGEST, 22)\n    reading = tree(text)\n    ask(reading is not None, 22)\n",
+     "    ask(len(text) <= LONGEST, 22)\n    reading = tree(text)\n    ask(reading is not None, 22)\n    ask(len(buffer) == ROOM, 21)\n"),
+    ("21 between the halves of 22", "    ask(len(buffer) == ROOM, 21)\n    ask(len(text) <= LONGEST, 22)\n", "    ask(len(text) <= LONGEST, 22)\n    ask(len(buffer) == ROOM, 21)\n"),
+    ("21 after 23", "    ask(len(buffer) == ROOM, 21)\n    ask(len(text) <= LONGEST, 22)\n    reading = tree(text)\n    ask(reading is not None, 22)\n    found = lines(reading)\n    ask(len(found) <= MOST, 23)\n",
+     "    ask(len(text) <= LONGEST, 22)\n    reading = tree(text)\n    ask(reading is not None, 22)\n    found = lines(reading)\n    ask(len(found) <= MOST, 23)\n    ask(len(buffer) == ROOM, 21)\n"),
+    ("21 lets longer buffers by", "len(buffer) == ROOM", "len(buffer) >= ROOM"),
+    ("21 lets shorter buffers by where the lines fit", "    ask(len(buffer) == ROOM, 21)\n", "    ask(len(buffer) == ROOM or 16 * len(lines(tree(text) or ('p0',) * 99)) <= len(buffer) < ROOM, 21)\n"),
+    ("bytes behind the lines are 0", "start + buffer[len(start) :]", "start.ljust(ROOM, b'\\0')"),
+    ("bytes behind the lines are spaces", "start + buffer[len(start) :]", "start.ljust(ROOM)"),
+    ("the byte behind the lines is 0", "start + buffer[len(start) :]", "(start + b'\\0' + buffer[len(start) + 1 :])[:ROOM]"),
+    ("the lines at the end of the buffer", "start + buffer[len(start) :]", "buffer[: ROOM - len(start)] + start"),
+    ("lines without byte 10", "start = written(found)", "start = written(found).replace(b'\\n', b' ')"),
+    ("numbers to the left", "start = written(found)", "start = b''.join(b'%-5d%-5d%-5d\\n' % line for line in found)"),
+    ("numbers with zeros before", "start = written(found)", "start = b''.join(b'%05d%05d%05d\\n' % line for line in found)"),
+    ("the answer is the whole rule's number", "[0, 0, len(found)]", "[0, 0, len(found) - 1]"),
+    ("23 tells the lines", "ask(len(found) <= MOST, 23)", "if len(found) > MOST:\n        return [23, 0, len(found)], buffer"),
+    ("23 writes the first 32 lines", "ask(len(found) <= MOST, 23)", "if len(found) > MOST:\n        return [23, 0, 0], written(found[:MOST])"),
+    ("23 stops at 32 lines", "ask(len(found) <= MOST, 23)", "found = found[:MOST]"),
+    ("22 clears the buffer", "    ask(reading is not None, 22)\n", "    if reading is None:\n        return [22, 0, 0], bytes(ROOM)\n"),
+    ("22 writes what comes before the mistake", "    ask(reading is not None, 22)\n",
+     "    if reading is None:\n        before = next(filter(None, (tree(text[:n]) for n in range(len(text), 0, -1))), None)\n"
+     "        start = written(lines(before)[:MOST]) if before else b''\n        return [22, 0, 0], start + buffer[len(start) :]\n"),
+    ("22 with the place of the mistake", "    ask(reading is not None, 22)\n", "    ask(reading is not None, 22, len(text))\n"),
+]  # fmt: skip
+"""Wrong readings of rule text."""
+
+
+def module(source: str, name: str, old: str, new: str) -> types.ModuleType:
+    """A model with one place of its source written otherwise."""
+    assert source.count(old) == 1, (name, source.count(old))
     made = types.ModuleType("mutant")
     sys.modules["mutant"] = made
-    exec(compile(SOURCE.replace(old, new), "mutant", "exec"), made.__dict__)
+    exec(compile(source.replace(old, new), "mutant", "exec"), made.__dict__)
     return made
+
+
+def modules(
+    model: types.ModuleType, mutants: list[tuple[str, str, str]]
+) -> dict[str, types.ModuleType]:
+    """The mutants of a model, by name."""
+    source = pathlib.Path(model.__file__).read_text()
+    return {mutant[0]: module(source, *mutant) for mutant in mutants}
 
 
 def answers(model: types.ModuleType, trial: trials.Trial) -> list[object]:
@@ -172,7 +361,8 @@ def answers(model: types.ModuleType, trial: trials.Trial) -> list[object]:
     return said
 
 
-MODELS = {mutant[0]: module(*mutant) for mutant in MUTANTS}
+MODELS = modules(checker, MUTANTS)
+RULE_MODELS = modules(rules, RULE_MUTANTS)
 """The mutants as models."""
 
 OF_SETS = set(list(MODELS)[:9])
@@ -190,17 +380,54 @@ def noticed(trial: trials.Trial, names: Iterable[str]) -> list[str]:
     return [name for name in names if answers(MODELS[name], trial) != right]
 
 
+def rule_answer(model: types.ModuleType, text: bytes, buffer: bytes) -> object:
+    """All that the model says of a rule text."""
+    try:
+        return model.rule(text, buffer)
+    except Exception as wrong:  # a mutant may run into a wall
+        return repr(wrong)
+
+
+def rule_noticed(text: bytes, buffer: bytes) -> list[str]:
+    """The mutants that answer a rule text otherwise than the model."""
+    right = rule_answer(rules, text, buffer)
+    return [
+        name
+        for name, model in RULE_MODELS.items()
+        if rule_answer(model, text, buffer) != right
+    ]
+
+
+def tally(names: Iterable[str], lists: Iterable[list[str]]) -> dict[str, int]:
+    """How many of the lists have each name."""
+    found = dict.fromkeys(names, 0)
+    for name in itertools.chain.from_iterable(lists):
+        found[name] += 1
+    return found
+
+
 def counts(drawn: list[trials.Trial]) -> dict[str, int]:
     """How many of the cases notice each mutant."""
-    found = dict.fromkeys(MODELS, 0)
-    for trial in drawn:
-        for name in noticed(trial, MODELS):
-            found[name] += 1
-    return found
+    return tally(MODELS, (noticed(trial, MODELS) for trial in drawn))
+
+
+def rule_counts(cases: Iterable[tuple[bytes, bytes]]) -> dict[str, int]:
+    """How many of the rule texts, with their buffers, notice each mutant."""
+    return tally(RULE_MODELS, (rule_noticed(*case) for case in cases))
+
+
+def show(found: dict[str, int], cases: int) -> int:
+    """Print how many cases notice each mutant; how many mutants none does."""
+    for name, times in found.items():
+        print(f"{times:5} {name}")
+    unnoticed = sum(times == 0 for times in found.values())
+    print(f"{len(found)} mutants, {unnoticed} unnoticed by {cases} cases")
+    return unnoticed
 
 
 def main() -> int:
     """The program."""
+    import rule_texts
     import trials
 
     options = argparse.ArgumentParser(description=__doc__)
@@ -208,11 +435,9 @@ def main() -> int:
     options.add_argument("--count", type=int, default=trials.COUNT)
     chosen = options.parse_args()
     drawn = trials.trials(chosen.seed, chosen.count)
-    found = counts(drawn)
-    for name, times in found.items():
-        print(f"{times:5} {name}")
-    unnoticed = sum(times == 0 for times in found.values())
-    print(f"{len(found)} mutants, {unnoticed} unnoticed by {len(drawn)} cases")
+    texts = list(rule_texts.chosen())
+    unnoticed = show(counts(drawn), len(drawn))
+    unnoticed += show(rule_counts(texts), len(texts))
     return 1 if unnoticed else 0
 
 

@@ -27,7 +27,7 @@ import sys
 import tempfile
 import time
 from dataclasses import dataclass
-from typing import Iterator
+from typing import Iterable, Iterator
 
 import checker
 import damaged
@@ -181,7 +181,7 @@ def verdict(line: bytes) -> bytes:
 
 
 class Run:
-    """The program at work on a text: a file, or a pipe where it comes slowly."""
+    """A program at work on a text: a file, or a pipe where it comes slowly."""
 
     def __init__(self, program: str, case: Case) -> None:
         self.file = tempfile.TemporaryFile()
@@ -205,8 +205,9 @@ class Run:
                 self.process.stdin.flush()
                 time.sleep(0.01)
 
-    def end(self) -> tuple[bytes, list[str]]:
-        """What the program printed, and what else is wrong with its run."""
+    def end(self, most: int) -> tuple[bytes, list[str]]:
+        """What the program printed, and what else is wrong with its run; it may
+        read so many bytes at most."""
         with self.file, self.process:
             try:
                 out, error = self.process.communicate(timeout=SECONDS)
@@ -220,40 +221,45 @@ class Run:
             wrong.append(f"exit status {self.process.returncode}")
         if error:
             wrong.append(f"standard error {error[:200]!r}")
-        if taken > checker.LONGEST + 1:
+        if taken > most:
             wrong.append(f"{taken} bytes read")
         return out, wrong
 
 
 class Comparison:
-    """What was run, and the differences found."""
+    """What was run, and the differences found.  A program has its own way to
+    judge a case, and its own summary."""
 
     def __init__(self, program: str) -> None:
         self.program = program
         self.numbers: collections.Counter[int] = collections.Counter()
-        self.verdicts: dict[str, bytes] = {}
-        self.cuttings = 0
         self.differences: list[Difference] = []
 
     def compare(self, case: Case) -> bool:
         """Run one case; False if the program hung."""
-        at_work = Run(self.program, case)
-        line = checker.verdict_line(case.text)
-        out, wrong = at_work.end()
-        if out != line:
-            wrong.append("another line")
-        if case.told not in (None, line):
+        model, out, wrong = self.judged(case)
+        if out != model:
+            wrong.append("another output")
+        if case.told not in (None, model):
             wrong.append(f"the text was made for {case.told!r}")
-        wrong += model_wrong(case.text, line)
-        if case.structure:
-            self.cuttings += 1
-            first = self.verdicts.setdefault(case.structure, verdict(out))
-            if verdict(out) != first:
-                wrong.append("another cutting has another verdict")
-        self.numbers[checker.read(case.text)[0]] += 1
         if wrong:
-            self.differences.append(Difference(case, line, out, wrong))
+            self.differences.append(Difference(case, model, out, wrong))
         return HUNG not in wrong
+
+    def judged(self, case: Case) -> tuple[bytes, bytes, list[str]]:
+        """What the model and the program print, and what else is wrong."""
+        raise NotImplementedError
+
+    def count(self) -> str:
+        """How many were accepted, and how many refused with each number."""
+        valid = self.numbers[0]
+        refused = {n: self.numbers[n] for n in sorted(self.numbers) if n != 0}
+        told = ", ".join(f"{n}: {times}" for n, times in refused.items())
+        return f"{valid} valid, {sum(refused.values())} refused ({told})"
+
+    def summary(self) -> str:
+        """One line."""
+        raise NotImplementedError
 
     def show(self) -> None:
         """Print the differences with the shortest texts."""
@@ -265,40 +271,69 @@ class Comparison:
             print("model:  ", difference.model)
             print("program:", difference.program)
 
+    def run(self, cases: Iterable[Case]) -> int:
+        """Run all cases and print what was found; the exit status."""
+        began = time.time()
+        for case in cases:
+            if not self.compare(case):
+                break
+        self.show()
+        print(f"{self.summary()}; {time.time() - began:.0f} s")
+        return 1 if self.differences else 0
+
+
+class Verdicts(Comparison):
+    """The program `verdict`."""
+
+    def __init__(self, program: str) -> None:
+        super().__init__(program)
+        self.verdicts: dict[str, bytes] = {}
+        self.cuttings = 0
+
+    def judged(self, case: Case) -> tuple[bytes, bytes, list[str]]:
+        """The lines of both, and where another cutting or another way of the
+        model's gives another verdict."""
+        at_work = Run(self.program, case)
+        line = checker.verdict_line(case.text)
+        out, wrong = at_work.end(checker.LONGEST + 1)
+        wrong += model_wrong(case.text, line)
+        if case.structure:
+            self.cuttings += 1
+            first = self.verdicts.setdefault(case.structure, verdict(out))
+            if verdict(out) != first:
+                wrong.append("another cutting has another verdict")
+        self.numbers[checker.read(case.text)[0]] += 1
+        return line, out, wrong
+
     def summary(self) -> str:
         """One line."""
-        valid = self.numbers[0]
-        refused = {n: self.numbers[n] for n in sorted(self.numbers) if n != 0}
         return (
-            f"{sum(self.numbers.values())} jobs: {valid} valid, "
-            f"{sum(refused.values())} refused ("
-            + ", ".join(f"{n}: {times}" for n, times in refused.items())
-            + f"); {self.cuttings} cuttings of {len(self.verdicts)} structures; "
+            f"{sum(self.numbers.values())} jobs: {self.count()}; "
+            f"{self.cuttings} cuttings of {len(self.verdicts)} structures; "
             f"{len(self.differences)} differ"
         )
 
 
+def options(told: str, count: int) -> argparse.Namespace:
+    """The program's path, a seed and a count."""
+    found = argparse.ArgumentParser(description=told)
+    found.add_argument("program")
+    found.add_argument("--seed", type=int, default=1)
+    found.add_argument("--count", type=int, default=count)
+    return found.parse_args()
+
+
 def main() -> int:
     """The program."""
-    options = argparse.ArgumentParser(description=__doc__)
-    options.add_argument("program")
-    options.add_argument("--seed", type=int, default=1)
-    options.add_argument("--count", type=int, default=100)
-    chosen = options.parse_args()
+    chosen = options(__doc__, 100)
     rng = random.Random(chosen.seed)
-    comparison = Comparison(chosen.program)
-    began = time.time()
-    for case in itertools.chain(
+    cases = itertools.chain(
         named_cases(),
         valid_cases(rng),
         damaged_cases(rng),
         drawn_cases(rng, chosen.count),
-    ):
-        if not comparison.compare(case):
-            break
-    comparison.show()
-    print(f"{comparison.summary()}; {time.time() - began:.0f} s")
-    return 1 if comparison.differences else 0
+    )
+    return Verdicts(chosen.program).run(cases)
 
 
 if __name__ == "__main__":

@@ -4,7 +4,9 @@
 
 Demand 3 on random lists of calls, any tables, the sets of an until against all
 sets, truth by a second definition on tiny jobs, finish by plain rounds, and
-every damaged text against what it was made for.
+every damaged text against what it was made for.  Rule text by a second way of
+reading, every short text among them, against what is told of it by hand, and
+the truth of a rule against that of its lines.
 """
 
 from __future__ import annotations
@@ -14,11 +16,25 @@ import itertools
 import pathlib
 import random
 from dataclasses import dataclass, field
+from functools import lru_cache
+from typing import Iterator
 
 import checker
+import rule_texts
+import rules
 from checker import AND, ATOM, AU, AX, EMPTY, EU, EX, NOT, Job
 from damaged import damages, flips, spoilt
-from generate import JOB_V, Picture, full, picture, printed, recut, scattered, written_line
+from generate import (
+    JOB_V,
+    Picture,
+    full,
+    picture,
+    printed,
+    recut,
+    scattered,
+    written,
+    written_line,
+)
 from tables import (
     any_calls,
     bad_table,
@@ -33,11 +49,14 @@ from tables import (
 )
 
 
+EXAMPLES = pathlib.Path(__file__).parents[1] / "examples"
+
+
 def check_printed() -> None:
     """C1 to C10."""
     for name, text, numbers in printed():
         assert checker.verdict_line(text) == written_line(numbers), name
-    v = (pathlib.Path(__file__).parents[1] / "examples" / "v.job").read_bytes()
+    v = (EXAMPLES / "v.job").read_bytes()
     assert v == JOB_V.text()
     table = fresh_table(checker.parse(v))
     answer, after = checker.step(v, table, 0)
@@ -251,6 +270,155 @@ def check_lines(pictured: Picture) -> None:
         assert checker.line(text, number) == b""
 
 
+# --------------------------------------------------------------------------
+# Rule text
+# --------------------------------------------------------------------------
+
+
+def splits(text: bytes, at: int = 0, spelled: bool = False) -> Iterator[tuple[str, ...]]:
+    """Every way to take a text from a place on as tokens with spaces before,
+    between and behind, one at least between two of letters or digits; whether
+    the token before is such a one is passed."""
+    start = at
+    while text[at : at + 1] == b" ":
+        at += 1
+    if at == len(text):
+        yield ()
+    for token in rule_texts.TOKENS:
+        if text.startswith(token.encode(), at):
+            if at > start or not (spelled and token[0].isalnum()):
+                for rest in splits(text, at + len(token), token.isalnum()):
+                    yield token, *rest
+
+
+def trees(tokens: tuple[str, ...]) -> list[rules.Tree]:
+    """Every reading of a list of tokens: a chart of all its parts, each divided
+    at every operator, where a part is an operand if it binds tightly enough."""
+
+    @lru_cache(maxsize=None)
+    def part(start: int, end: int) -> list[tuple[int, rules.Tree]]:
+        """The readings of a part, each with how weakly it binds."""
+        first, last = tokens[start], tokens[end - 1]
+        found: list[tuple[int, rules.Tree]] = []
+        if end - start == 1:
+            return [(0, (first,))] if first in rule_texts.ATOMS else []
+        if first in rule_texts.PREFIXES:
+            found += [(1, (first, f)) for f in operands(start + 1, end, 1)]
+        if (first, last) == ("(", ")") and end - start > 2:
+            found += [(0, f) for f in operands(start + 1, end - 1, 4)]
+        for at in range(start + 1, end - 1):
+            word = tokens[at]
+            if word in rule_texts.BETWEEN:
+                left, right = rule_texts.strengths(word)
+                for f in operands(start, at, left):
+                    for g in operands(at + 1, end, right):
+                        found.append((rule_texts.STRENGTH[word], (word, f, g)))
+            if word == "U" and first in rule_texts.UNTILS and last == "]":
+                if tokens[start + 1] == "[" and start + 2 < at < end - 2:
+                    for f in operands(start + 2, at, 4):
+                        for g in operands(at + 1, end - 1, 4):
+                            found.append((0, (first, f, g)))
+        return found
+
+    def operands(start: int, end: int, weakest: int) -> list[rules.Tree]:
+        return [f for strength, f in part(start, end) if strength <= weakest]
+
+    return operands(0, len(tokens), 4) if tokens else []
+
+
+def check_reading(text: bytes) -> None:
+    """A text has one reading where the model has one, and that one."""
+    found = [tree for tokens in splits(text) for tree in trees(tokens)]
+    reading = rules.tree(text)
+    assert found == ([] if reading is None else [reading]), (text, found, reading)
+
+
+def check_rule(rng: random.Random, tree: rules.Tree) -> None:
+    """However it is spelled, a rule is read as it is; and put into a job its
+    lines are let by and say the same."""
+    for text in rule_texts.spellings(rng, tree):
+        assert rules.tree(text) == tree, (text, tree)
+    found = rules.lines(tree)
+    assert len(set(found)) == len(found)
+    if len(found) <= rules.MOST:
+        pictured = picture(rng)
+        pictured.rules = found
+        job = checker.parse(pictured.text())
+        assert checker.truths(job)[-1] == rules.holding(job, tree), tree
+
+
+def check_rule_answer(text: bytes, buffer: bytes) -> None:
+    """A refusal changes nothing and tells no lines; the lines are as many as are
+    told, and the bytes behind them stay."""
+    (number, line, lines), after = rules.rule(text, buffer)
+    assert line == 0 and len(after) == len(buffer)
+    if number != 0:
+        assert lines == 0 and after == buffer
+    else:
+        assert after[16 * lines :] == buffer[16 * lines :]
+        found = [checker.fields(after[16 * k : 16 * k + 16], 3) for k in range(lines)]
+        assert written(found) == after[: 16 * lines]
+
+
+def check_told() -> int:
+    """What is told of rule texts by hand; how many there are."""
+    told = [*rule_texts.ACCEPTED, *rule_texts.limits()]
+    told += [rule_texts.Told(text, 22) for text in rule_texts.REFUSED]
+    for text, number, lines in told:
+        answer, _ = rules.rule(text, rule_texts.UNEVEN)
+        assert answer == [number, 0, lines], (text, number, lines, answer)
+        for length in (0, 511, 513):
+            other = bytes(length)
+            assert rules.rule(text, other) == ([21, 0, 0], other), text
+    for text, lines in (
+        (b"p0 | p1", [(1, 0, 0), (2, 0, 0), (1, 1, 0), (2, 2, 0), (3, 1, 3), (2, 4, 0)]),
+        (b"p0 => p1", [(1, 0, 0), (1, 1, 0), (2, 1, 0), (3, 0, 2), (2, 3, 0)]),
+        (b"p0 => p0", [(1, 0, 0), (2, 0, 0), (3, 0, 1), (2, 2, 0)]),
+        (b"p2 & p1 & p2", [(1, 2, 0), (1, 1, 0), (3, 0, 1), (3, 2, 0)]),
+        (b"!!p15", [(1, 15, 0), (2, 0, 0), (2, 1, 0)]),
+        (b"AX EX p1", [(1, 1, 0), (5, 0, 0), (4, 1, 0)]),
+        (b"A[p1 U E[p0 U p1]]", [(1, 1, 0), (1, 0, 0), (7, 1, 0), (6, 0, 2)]),
+    ):
+        assert rules.lines(rules.tree(text)) == lines, text
+    return len(told)
+
+
+def check_rule_examples() -> None:
+    """The rule of each example as text, put into its job: the same line."""
+    for path in sorted(EXAMPLES.glob("*.job")):
+        job = path.read_bytes()
+        text = path.with_suffix(".rule").read_bytes()
+        states, edges, _, nodes = checker.sizes(job)
+        found = rules.lines(rules.tree(text.removesuffix(b"\n")))
+        first = written_line((states, edges, len(found), nodes))
+        again = first + job[21 : 21 + 11 * (states + edges)] + written(found)
+        line = path.with_suffix(".line").read_bytes()
+        assert checker.verdict_line(again) == line, path
+
+
+def rule_test(rng: random.Random, count: int) -> None:
+    """All of the above about rule text."""
+    check_rule_examples()
+    texts = [text for text, _, _ in rule_texts.ACCEPTED] + rule_texts.REFUSED
+    for length in range(5):
+        for tokens in rule_texts.short(length):
+            texts += [rule_texts.spaced(tokens), rule_texts.together(tokens)]
+    texts += rule_texts.noise(rng, count)
+    for _ in range(count):
+        tree = rule_texts.some_tree(rng)
+        check_rule(rng, tree)
+        small = rule_texts.some_tree(rng, 9)
+        texts += [rule_texts.spelled(rng, small), *rule_texts.spoilt(rng, small)]
+        buffer = rng.randbytes(rng.choice([512, 512, rng.randrange(1024)]))
+        check_rule_answer(rule_texts.spelled(rng, tree), buffer)
+    for text in texts:
+        check_reading(text)
+    print(
+        f"{check_told()} rule texts as told, {count} rules in jobs, "
+        f"{len(texts)} texts read in two ways"
+    )
+
+
 def self_test(seed: int, count: int) -> None:
     """All of the above."""
     rng = random.Random(seed)
@@ -288,6 +456,7 @@ def self_test(seed: int, count: int) -> None:
         f"{tally.damages} damaged texts; answers in lists: "
         + ", ".join(f"{n}: {tally.refused[n]}" for n in sorted(tally.refused))
     )
+    rule_test(rng, count)
 
 
 def main() -> None:

@@ -3,6 +3,7 @@ ghost use mathlib.Core.Path.{_≡_};
 ghost use Rattle.job.specs.Answer.{numbers};
 ghost use Rattle.job.specs.Read.{readTold};
 ghost use Rattle.calls.specs.Told.{freshTold, stepTold, offerTold, acceptTold, lookTold, closeTold, finishTold};
+ghost use Rattle.rule_call.specs.Ruled.{ruledTold};
 use calls::accept::Delivered;
 use calls::close::Closed;
 use calls::finish::Finished;
@@ -11,6 +12,7 @@ use calls::look::Looked;
 use calls::offer::Offered;
 use calls::step::Stepped;
 use job::reading::Reading;
+use rule_call::rule::Ruled;
 
 pub fn of_read(r: Reading) -> [usize; 6]
     ensures { λ a. ⌜ a ≡ numbers (readTold r) ⌝ }
@@ -81,5 +83,14 @@ pub fn of_finish(r: Finished) -> [usize; 5]
     match r {
         Finished::Accepted(o) => [0, 0, o.verdict as usize, o.rounds, o.cells],
         Finished::Refused(why) => [why.number as usize, why.line, 0, 0, 0],
+    }
+}
+
+pub fn of_rule(r: Ruled) -> [usize; 3]
+    ensures { λ a. ⌜ a ≡ numbers (ruledTold r) ⌝ }
+{
+    match r {
+        Ruled::Accepted(lines) => [0, 0, lines],
+        Ruled::Refused(why) => [why.number as usize, why.line, 0],
     }
 }

@@ -2,7 +2,7 @@
 -- Assumes nothing.
 use Prim.Native.Nat.{ℕ, _+_, _≤_}
 use mathlib.Core.Path.{_≡_, refl, ap, subst, _∙_}
-use mathlib.Core.List.{List}
+use mathlib.Core.List.{List, [], _∷_}
 use native.Mathlib.Omega.{arith}
 use lib.ListN.{length, take, drop, length-replicate}
 use Rattle.text.specs.Field.{Text}
@@ -11,6 +11,7 @@ use Rattle.job.specs.Answer.{Answer, numbers}
 use Rattle.job.specs.Question.{Question, answered}
 use Rattle.job.specs.Read.{lineStart, lineLength, lineOf}
 use Rattle.job.proofs.QuestionLaws.{by-refusal, answered-none, answered-some}
+use Rattle.rule_text.specs.RuleCall.{ruleLines, ruleQuestions, ruleAnswer}
 use Rattle.cells.specs.Table.{Table}
 use Rattle.cells.specs.Calls.{Call, fresh, step, offer, accept, look, close, finish, width, told, questions, answer}
 use Rattle.numbers.specs.Stored.{stored}
@@ -44,13 +45,21 @@ pub answer-width : (c : Call) (x : Text) (t : Table) → length (numbers (answer
 unfolding answer
 answer-width c x t = answered-width (questions c x t) (width c) (told c (decode x) t) (own-width c (decode x) t)
 
+pub rule-width : (x : Text) (buffer : List ℕ) → length (numbers (ruleAnswer x buffer)) ≡ 3
+unfolding ruleAnswer
+rule-width x buffer = answered-width (ruleQuestions x buffer) 1 (length (ruleLines x) ∷ []) refl
+
 -- so an array with room for that many begins with the answer, all of it
+all-stored : (out ns : List ℕ) (n : ℕ) → length ns ≡ n → n ≤ length out → take n (stored out ns) ≡ ns
+all-stored out ns n w room = subst (λ m. take m (stored out ns) ≡ ns) w (stored-front out ns (omega (arith, w)))
+
 pub answer-stored : (c : Call) (x : Text) (t : Table) (out : List ℕ) → 2 + width c ≤ length out
     → take (2 + width c) (storedAnswer out c x t) ≡ numbers (answer c x t)
-answer-stored c x t out room =
-    let ns = numbers (answer c x t) in
-    let w = answer-width c x t in
-    subst (λ n. take n (stored out ns) ≡ ns) w (stored-front out ns (omega (arith, w)))
+answer-stored c x t out = all-stored out (numbers (answer c x t)) (2 + width c) (answer-width c x t)
+
+pub rule-stored : (x : Text) (buffer out : List ℕ) → 3 ≤ length out
+    → take 3 (stored out (numbers (ruleAnswer x buffer))) ≡ numbers (ruleAnswer x buffer)
+rule-stored x buffer out = all-stored out (numbers (ruleAnswer x buffer)) 3 (rule-width x buffer)
 
 -- the bytes that start and length name are the line
 pub line-named : (x : Text) (l : ℕ) → take (lineLength x l) (drop (lineStart x l) x) ≡ lineOf x l
