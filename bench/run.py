@@ -1,17 +1,24 @@
-"""The program `verdict` beside a plain, unverified C program, in one run.
+"""The programs `verdict` and `rule`, each beside a plain, unverified C program.
 
-    run.py [PROGRAM] [--runs N] [--quick]
+    run.py [PROGRAM ...] [--runs N] [--quick]
 
-Every job goes to both programs; their lines have to be equal.  A row has the
-best time of N runs of each, taken in turns, starting the process and reading
-included, and the instructions that callgrind counts (not with --quick).  The
-last column has the growth: how many times the instructions (or the time) that
-`verdict` took for the family's job before, which is half or a quarter as large.
+Every text goes to both programs; what they print has to be equal.  A row has
+the best time of N runs of each, taken in turns, starting the process and reading
+included, and the instructions that callgrind counts (not with --quick).
+
+For jobs the last column has the growth: how many times the instructions (or the
+time) that `verdict` took for the family's job before, which is half or a quarter
+as large.  For rule text, instructions are those above what an empty line takes,
+since starting the process takes more than reading most texts; the last column
+has those of `rule` for a byte.
+
+A PROGRAM is told by the name of its file; without any, both of target/bin run.
 """
 
 from __future__ import annotations
 
 import argparse
+import functools
 import pathlib
 import random
 import re
@@ -26,6 +33,7 @@ sys.path.insert(0, str(ROOT / "tests"))
 
 import checker  # noqa: E402
 import generate  # noqa: E402
+import rule_texts  # noqa: E402
 
 
 def jobs() -> Iterator[tuple[str, generate.Picture]]:
@@ -59,8 +67,32 @@ def jobs() -> Iterator[tuple[str, generate.Picture]]:
         yield "cut ring", generate.cut_ring(checker.EU, states, 32, False)
 
 
+def chained(word: str, count: int) -> bytes:
+    """So many atoms, p0 to p9 in turns, with the word between them."""
+    return word.join(rule_texts.ATOMS[i % 10] for i in range(count)).encode()
+
+
+def rules() -> Iterator[tuple[str, bytes]]:
+    """Rules as they are typed, then texts of the greatest length and above."""
+    yield "`A[p0 U p1]`", b"A[p0 U p1]"
+    yield "the README's", b"AX (p0 | !p1) => E[p2 U p3]"
+    yield "32 lines: 32 p0, `&`", rule_texts.chain("&", 32)
+    yield "510 `!`, p0", rule_texts.nested("!", "", 510)
+    yield "512 `!`", b"!" * 512
+    yield "p0 in 255 brackets", rule_texts.nested("(", ")", 255)
+    yield "512 `(`", b"(" * 512
+    yield "p0 to p9, `&`", chained("&", 171)
+    yield "p0 to p9, `\\|`", chained("|", 171)
+    yield "33 `!`, p0, 159 `\\|p1`", b"!" * 33 + b"p0" + b"|p1" * 159
+    yield "p0 to p9, `=>`", chained("=>", 128)
+    yield "90 p0 to p9, `=>`, spaces", rule_texts.filled(chained("=>", 90), 512)
+    yield "63 nested `A[p0 U`", rule_texts.nested("A[p0 U ", "]", 63)
+    yield "p0, 510 spaces", rule_texts.filled(b"p0", 512)
+    yield "514 bytes of nonsense", random.Random(1).randbytes(514)
+
+
 def run(program: str, text: pathlib.Path) -> tuple[bytes, float]:
-    """The program's line, and its time."""
+    """What the program prints, and its time."""
     with text.open("rb") as job:
         began = time.perf_counter()
         out = subprocess.run([program], stdin=job, stdout=subprocess.PIPE, check=True)
@@ -84,66 +116,158 @@ def instructions(program: str, text: pathlib.Path) -> int:
     return int(found[1])
 
 
-class Table:
-    """The rows, printed as they come."""
+def compared(costs: list[float]) -> list[str]:
+    """The plain program's cost, the other's, and their ratio."""
+    ratio = f"{costs[1] / costs[0]:.2f}" if costs[0] > 0 else ""
+    return [*(f"{c:.1f}" for c in costs), ratio]
 
-    def __init__(self, programs: list[str], runs: int, quick: bool) -> None:
-        self.programs = programs
+
+class Table:
+    """A program beside a plain one: the rows, printed as they come."""
+
+    source: str
+    columns: list[str]
+    last: str
+    unit: tuple[str, float]
+
+    def __init__(self, program: str, folder: str, runs: int, quick: bool) -> None:
+        plain = f"{folder}/plain"
+        source = str(ROOT / "bench" / self.source)
+        subprocess.run(["gcc", "-O3", "-Wall", "-Wextra", "-o", plain, source], check=True)
+        self.programs = [plain, program]
+        self.text = pathlib.Path(folder, "text")
         self.runs = runs
         self.quick = quick
-        self.before: dict[str, float] = {}
-        head = ["job", "states", "rounds", "plain ms", "verdict ms", "ratio"]
-        if not quick:
-            head += ["plain M instr.", "verdict M instr.", "ratio"]
-        self.put([*head, "growth"])
-        self.put(["---"] * (len(head) + 1))
+
+    def texts(self) -> Iterator[tuple[str, bytes]]:
+        """The texts, each with the name of its family."""
+        raise NotImplementedError
+
+    def told(self, text: bytes, printed: bytes) -> list[str]:
+        """What the row tells of a text besides its family."""
+        raise NotImplementedError
+
+    def closing(self, family: str, text: bytes, cost: float) -> str:
+        """The row's last cell."""
+        raise NotImplementedError
 
     @staticmethod
     def put(cells: list[str]) -> None:
         """Print a row."""
         print(f"| {' | '.join(cells)} |", flush=True)
 
-    def growth(self, family: str, cost: float) -> str:
+    def put_head(self) -> None:
+        """Print the first two rows."""
+        names = ["plain", pathlib.Path(self.programs[1]).name]
+        head = [*self.columns, *(f"{name} ms" for name in names), "ratio"]
+        if not self.quick:
+            head += [*(f"{name} {self.unit[0]} instr." for name in names), "ratio"]
+        self.put([*head, self.last])
+        self.put(["---"] * (len(head) + 1))
+
+    def counted(self, text: bytes) -> list[float]:
+        """The instructions of both programs."""
+        self.text.write_bytes(text)
+        return [instructions(p, self.text) / self.unit[1] for p in self.programs]
+
+    def add(self, family: str, text: bytes) -> bool:
+        """Run a text and print its row; False if the programs differ."""
+        self.text.write_bytes(text)
+        taken = [[run(p, self.text) for p in self.programs] for _ in range(self.runs)]
+        printed = {out for pair in taken for out, _ in pair}
+        if len(printed) != 1:
+            print(f"{family}, {len(text)} bytes: what is printed differs: {printed}")
+            return False
+        costs = [1000 * min(pair[i][1] for pair in taken) for i in range(2)]
+        cells = [family, *self.told(text, printed.pop()), *compared(costs)]
+        if not self.quick:
+            costs = self.counted(text)
+            cells += compared(costs)
+        self.put([*cells, self.closing(family, text, costs[1])])
+        return True
+
+    def run(self) -> bool:
+        """Print the whole table, up to a text where the programs differ."""
+        self.put_head()
+        return all(self.add(family, text) for family, text in self.texts())
+
+
+class Jobs(Table):
+    """The program `verdict`."""
+
+    source = "plain.c"
+    columns = ["job", "states", "rounds"]
+    last = "growth"
+    unit = "M", 1e6
+
+    def __init__(self, program: str, folder: str, runs: int, quick: bool) -> None:
+        super().__init__(program, folder, runs, quick)
+        self.before: dict[str, float] = {}
+
+    def texts(self) -> Iterator[tuple[str, bytes]]:
+        for family, job in jobs():
+            yield family, job.text()
+
+    def told(self, text: bytes, printed: bytes) -> list[str]:
+        """The states and the rounds."""
+        return [str(int(text[:5])), str(int(printed[15:20]))]
+
+    def closing(self, family: str, text: bytes, cost: float) -> str:
         """How many times the cost of the family's job before."""
         grown = f"{cost / self.before[family]:.1f}" if family in self.before else ""
         self.before[family] = cost
         return grown
 
-    def add(self, family: str, states: int, text: pathlib.Path) -> bool:
-        """Run a job and print its row; False if the lines differ."""
-        taken = [[run(p, text) for p in self.programs] for _ in range(self.runs)]
-        lines = {line for pair in taken for line, _ in pair}
-        if len(lines) != 1:
-            print(f"{family}, {states} states: the lines differ: {lines}")
-            return False
-        rounds = int(lines.pop()[15:20])
-        costs = [1000 * min(pair[i][1] for pair in taken) for i in range(2)]
-        cells = [family, str(states), str(rounds)]
-        cells += [*(f"{c:.1f}" for c in costs), f"{costs[1] / costs[0]:.2f}"]
-        if not self.quick:
-            costs = [instructions(p, text) / 1e6 for p in self.programs]
-            cells += [*(f"{c:.1f}" for c in costs), f"{costs[1] / costs[0]:.2f}"]
-        self.put([*cells, self.growth(family, costs[1])])
-        return True
+
+class Rules(Table):
+    """The program `rule`."""
+
+    source = "plain_rule.c"
+    columns = ["rule text", "bytes", "refusal", "lines"]
+    last = "a byte"
+    unit = "k", 1e3
+
+    @functools.cached_property
+    def start(self) -> list[float]:
+        """The instructions for an empty line."""
+        return super().counted(b"\n")
+
+    def texts(self) -> Iterator[tuple[str, bytes]]:
+        return rules()
+
+    def told(self, text: bytes, printed: bytes) -> list[str]:
+        """The bytes, the number and the lines."""
+        return [str(len(text)), str(int(printed[:5])), str(int(printed[5:10]))]
+
+    def counted(self, text: bytes) -> list[float]:
+        """The instructions above these."""
+        return [c - start for c, start in zip(super().counted(text), self.start)]
+
+    def closing(self, family: str, text: bytes, cost: float) -> str:
+        """The instructions for a byte."""
+        return "" if self.quick else f"{1000 * cost / len(text):.0f}"
+
+
+TABLES = {"verdict": Jobs, "rule": Rules}
+"""By the program's name."""
 
 
 def main() -> int:
     """The program."""
     options = argparse.ArgumentParser(description=__doc__)
-    options.add_argument("program", nargs="?", default=str(ROOT / "target/bin/verdict"))
+    here = [str(ROOT / "target/bin" / name) for name in TABLES]
+    options.add_argument("programs", nargs="*", default=here)
     options.add_argument("--runs", type=int, default=5)
     options.add_argument("--quick", action="store_true")
     chosen = options.parse_args()
-    with tempfile.TemporaryDirectory() as folder:
-        plain = f"{folder}/plain"
-        source = str(ROOT / "bench/plain.c")
-        subprocess.run(["gcc", "-O3", "-Wall", "-Wextra", "-o", plain, source], check=True)
-        text = pathlib.Path(folder, "job")
-        table = Table([plain, chosen.program], chosen.runs, chosen.quick)
-        for family, job in jobs():
-            text.write_bytes(job.text())
-            if not table.add(family, len(job.owner), text):
+    for program in chosen.programs:
+        name = pathlib.Path(program).name
+        if name not in TABLES:
+            options.error(f"{program} is neither of {', '.join(TABLES)}")
+        with tempfile.TemporaryDirectory() as folder:
+            if not TABLES[name](program, folder, chosen.runs, chosen.quick).run():
                 return 1
+        print()
     return 0
 
 
