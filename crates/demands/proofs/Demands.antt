@@ -22,13 +22,12 @@ use Rattle.rule_text.specs.Grammar.{Means}
 use Rattle.rule_text.specs.RuleCall.{ruleLines, ruleQuestions, InLimits}
 use Rattle.rule_text.proofs.Reading.{means-one}
 use Rattle.rule_text.proofs.RuleTruth.{rule-truth}
-use Rattle.rule_text.proofs.RuleCallLaws.{rule-same}
 use Rattle.rule_text.proofs.Worked.{exampleRule, example-limits}
 use Rattle.promises.specs.Contracts.{Loan, Happens, Reads, HandsBack, Prints, Rules, PrintsRule, MayHappen}
 use Rattle.promises.specs.Demand1.{AnswersBy}
 use Rattle.promises.specs.Demand2.{Accepts, JobText, FilledByRules, SmallestAndLargest, Judged}
 use Rattle.promises.specs.Demand3.{FreshFor, ListOfCalls, leftBy, AsDefined, CellsTrue, OneMoreFinish, OneMachine}
-use Rattle.promises.specs.RuleText.{LinesWritten, LastLineIsTruth, LinesInOrder, InJob, SameRule, RulePrinted}
+use Rattle.promises.specs.RuleText.{LinesWritten, LastLineIsTruth, LinesInOrder, InJob, RulePrinted}
 use Rattle.demands.specs.Functions.{AsksNothing, Proved}
 use Rattle.demands.proofs.Proved.{asks-nothing, proved}
 use Rattle.promises.proofs.Contracts.{back-defined, may-happen}
@@ -37,7 +36,7 @@ use Rattle.promises.proofs.Reading.{reads-first, reads-exact}
 use Rattle.promises.proofs.Filled.{happens-filled, sets-are}
 use Rattle.promises.proofs.Ends.{calls-defined, calls-cells, calls-finish, fresh-finish, same-verdict}
 use Rattle.promises.proofs.Judged.{prints-judged}
-use Rattle.promises.proofs.RuleText.{rules-first, rules-stay, rules-exact, rules-written, rules-in-job, means-in-order, prints-rule}
+use Rattle.promises.proofs.RuleText.{rules-first, rules-stay, rules-exact, rules-written, rules-in-job, means-in-order, rules-agree, prints-rule}
 use Rattle.promises.proofs.Hypotheses.{fresh-for, one-machine, example}
 
 -- Demand 1. "Any bytes and any numbers:
@@ -142,8 +141,16 @@ printed-is-the-rule = prints-rule
 
 -- Different spellings of one tree come to the same.
 pub spellings-agree :
-    (x y : Text) (f : Tree) → Means x f → Means y f → length x ≤ 512 → length y ≤ 512 → (b : List ℕ) → SameRule x y b
-spellings-agree = rule-same
+    (x y : Text) (f : Tree)
+    → Means x f
+    → Means y f
+    → length x ≤ 512
+    → length y ≤ 512
+    → (l m : Loan) (b : List ℕ) (a c : Answer) (u w : List ℕ)
+    → Rules l x b a u
+    → Rules m y b c w
+    → (a ≡ c) × (u ≡ w)
+spellings-agree = rules-agree
 
 -- What is supposed here can be had: what is defined may happen, a table fresh for a text, two cuttings of one machine, a list with messages, a
 -- rule within the limits, and structures in which each state has an edge out.

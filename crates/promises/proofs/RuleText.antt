@@ -26,7 +26,7 @@ use Rattle.rule_text.specs.RuleJob.{withRule, frontLines}
 use Rattle.rule_text.proofs.Reading.{means-atoms}
 use Rattle.rule_text.proofs.LinesLaws.{lines-operands, lines-distinct}
 use Rattle.rule_text.proofs.RuleJob.{rule-written, rule-accepted, rule-decoded, rule-job-truth}
-use Rattle.rule_text.proofs.RuleCallLaws.{linesText-length, rule-accepted-when, rule-accepted-only, rule-refused-stays}
+use Rattle.rule_text.proofs.RuleCallLaws.{linesText-length, rule-accepted-when, rule-accepted-only, rule-refused-stays, rule-same}
 use Rattle.rule_output.specs.RuleOutput.{buffer, typed}
 use Rattle.rule_output.proofs.PrintedLaws.{accepted-output, refused-output}
 use Rattle.promises.specs.Contracts.{Loan, Rules, PrintsRule}
@@ -99,6 +99,22 @@ pub rules-in-job :
     → IsJob J
     → InJob J (is .tree) u
 rules-in-job l x b a u happens is = lines-in-job b a u x (is .tree) (is .means) (is .few) (rules-written l x b a u happens is)
+
+pub rules-agree :
+    (x y : Text) (f : Tree)
+    → Means x f
+    → Means y f
+    → length x ≤ 512
+    → length y ≤ 512
+    → (l m : Loan) (b : List ℕ) (a c : Answer) (u w : List ℕ)
+    → Rules l x b a u
+    → Rules m y b c w
+    → (a ≡ c) × (u ≡ w)
+rules-agree x y f is same short few l m b a c u w first second =
+    let (told, left) = rule-same x y f is same short few b in
+    let (here, after) = rules-defined l x b a u first in
+    let (there, later) = rules-defined m y b c w second in
+    (here ∙ told ∙ sym there, after ∙ left ∙ sym later)
 
 -- What the program prints.
 own-lines : (x : Text) (b : List ℕ) → every isOwn (ruleQuestions x b) ≡ true

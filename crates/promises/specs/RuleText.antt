@@ -15,7 +15,7 @@ use Rattle.job.specs.Written.{Operands}
 use Rattle.ctl.specs.Truth.{Holds}
 use Rattle.rule_text.specs.Tree.{Tree, Satisfies}
 use Rattle.rule_text.specs.Lines.{linesOf, linesText}
-use Rattle.rule_text.specs.RuleCall.{ruleAnswer, ruleBuffer, InLimits}
+use Rattle.rule_text.specs.RuleCall.{ruleAnswer, InLimits}
 use Rattle.rule_text.specs.RuleJob.{withRule, frontLines}
 use Rattle.rule_output.specs.RuleOutput.{buffer, typed}
 use Rattle.promises.specs.Demand2.{TrueAt}
@@ -46,10 +46,6 @@ pub record InJob (J : Job) (f : Tree) (u : List ℕ) : Type 0 where
       (s : ℕ)
       → s < size J
       → Satisfies (J .structure) f s ↔ TrueAt (jobWith J f u) (subformulaCount (decode (jobWith J f u)) - 1) s
-
--- Two texts of one rule come to the same answer and the same buffer.
-abbrev pub SameRule : Text → Text → List ℕ → Type 0
-SameRule x y b = (ruleAnswer x b ≡ ruleAnswer y b) × (ruleBuffer x b ≡ ruleBuffer y b)
 
 -- What the program rule prints of its input: the number of the refusal and no line, or 0, how many lines there are, and the lines.
 pub data RulePrinted (x : Text) (said : List ℕ) : Type 0 where

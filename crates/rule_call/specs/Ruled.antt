@@ -30,6 +30,7 @@ pub record KeepsTree (x : Text) (f : Tree) (m : List ℕ) : Type 0 where
   pub holds : HoldsLines m
   pub lines : held m ≡ kept (rewritten f) [] .lines
 
+-- The text was read as a rule, or is none.
 unfoldable pub ReadsRule : Text → Bool → List ℕ → Type 0
 ReadsRule x true m = (f : Tree) × KeepsTree x f m
 ReadsRule x false m = reading x ≡ opt.none

@@ -14,6 +14,7 @@ words m k = getD m (3 * k) 0 ∷ getD m (3 * k + 1) 0 ∷ getD m (3 * k + 2) 0 �
 unfoldable pub held : List ℕ → List (List ℕ)
 held m = tab (words m) (getD m 99 0)
 
+-- An array of 100 words, with at most 33 lines.
 pub record HoldsLines (m : List ℕ) : Type 0 where
   pub long : length m ≡ 100
   pub few : getD m 99 0 ≤ 33

@@ -32,10 +32,12 @@ pub record Passes (x : Text) (at : ℕ) (t : Token) (next : ℕ) : Type 0 where
   pub later : at < next
   pub inside : next ≤ length x
 
+-- The mark stands at the place, or another token or none does.
 unfoldable pub Marked : Text → ℕ → ℕ → Place → Type 0
 Marked x at c (Behind next) = Passes x at (Mark c) next
 Marked x at c Missing = startsWithMark c (tokens (drop at x)) ≡ false
 
+-- The operator that stands at a place, strong enough, with the level of its right operand and the place behind it.
 pub record Infixes (x : Text) (at least : ℕ) (i : Infix) : Type 0 where
   pub passes : Passes x at (Operator (i .operator)) (i .behind)
   pub strong : least ≤ strength (i .operator)

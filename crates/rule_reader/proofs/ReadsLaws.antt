@@ -41,9 +41,7 @@ module _ (x : Text) (from : ℕ) (ls : List (List ℕ)) where
         rest = refl;
         later = it .later;
         inside = it .inside;
-        holds = it .leaves .holds;
-        lines = it .leaves .lines;
-        number = it .leaves .number;
+        leaves = it .leaves;
       })
 
   -- Nothing was found, so there is no parse.
@@ -64,7 +62,7 @@ module _ (x : Text) (from : ℕ) (ls : List (List ℕ)) where
         parses = ap (found f) (sym (h .rest));
         later = h .later;
         inside = h .inside;
-        leaves = record { holds = h .holds; lines = h .lines; number = h .number };
+        leaves = h .leaves;
       }
 
   pub found-read :
@@ -101,7 +99,5 @@ reads-earlier x from to (found f us) ls (Found q) after l h =
       rest = h .rest;
       later = le-trans l (h .later);
       inside = h .inside;
-      holds = h .holds;
-      lines = h .lines;
-      number = h .number;
+      leaves = h .leaves;
     }

@@ -13,7 +13,7 @@ use Rattle.rule_text.specs.Parse.{Parse, none, found}
 use Rattle.rule_text.specs.declared.token.Prefix.{Prefix}
 use Rattle.rule_text.specs.declared.token.Prefix.the-variants.{Not, Ax, Ex}
 use Rattle.rule_text.specs.declared.token.Token.{Token}
-use Rattle.rule_lines.specs.Held.{held, HoldsLines}
+use Rattle.rule_lines.specs.Held.{HoldsKept}
 use Rattle.rule_reader.specs.declared.parse.Part.{Part}
 use Rattle.rule_reader.specs.declared.parse.Operand.{Operand}
 use Rattle.rule_reader.specs.declared.parse.Operand.the-variants.{Found, Missing}
@@ -32,10 +32,9 @@ pub record ReadsTree (x : Text) (from : ℕ) (f : Tree) (us : List Token) (ls : 
   pub rest : tokens (drop (p .next) x) ≡ us
   pub later : from ≤ p .next
   pub inside : p .next ≤ length x
-  pub holds : HoldsLines after
-  pub lines : held after ≡ kept (rewritten f) ls .lines
-  pub number : p .line ≡ kept (rewritten f) ls .number
+  pub leaves : HoldsKept (kept (rewritten f) ls) (p .line) after
 
+-- What the reader answers, Missing or a part, is what the parse is. Where there is no parse, the lines do not matter.
 unfoldable pub ReadsAs : Text → ℕ → Parse → List (List ℕ) → Operand → List ℕ → Type 0
 ReadsAs x from none ls Missing after = Unit {0}
 ReadsAs x from none ls (Found p) after = ⊥

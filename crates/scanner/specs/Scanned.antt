@@ -9,7 +9,7 @@ use Rattle.rule_text.specs.declared.token.Token.{Token}
 use Rattle.rule_text.specs.declared.token.Token.the-variants.{Atom, Prefix, Operator, Mark, Unknown}
 use Rattle.scanner.specs.declared.scan.Scanned.{Scanned}
 
--- Only spaces stand from `at` to r, and none at r.
+-- From `at` to r there is no token, and no space stands at r.
 pub record Skips (x : Text) (at r : ℕ) : Type 0 where
   pub from : at ≤ r
   pub inside : r ≤ length x
