@@ -87,12 +87,13 @@ QUESTIONS = {
 TOLD = {
     "line": ["part", "empty"],
     "accept": ["fills 0", "fills 1"],
-    "look": ["cell 0", "cell 1", "cell 2"],
+    "look": ["cell 0", "cell 1", "cell 2", "unnamed 0", "unnamed 12"],
     "offer": ["value 0", "value 1"],
     "finish": ["verdict 0", "verdict 1"],
     "rule": [f"lines {count}" for count in range(1, rules.MOST + 1)],
 }
-"""What an accepted call can say, and must have said at least once."""
+"""What an accepted call can say, and must have said at least once; and that look
+without a node was accepted, and refused with 12."""
 
 HUGE = [2**16, 2**31, 2**32 - 1, 2**32, 2**32 + 1, 2**63, 2**64 - 2, 2**64 - 1]
 """Numbers that fit no cell: some become small ones where they are cut."""
@@ -327,11 +328,14 @@ class Comparison:
             wrong.append(f"byte {at} of the table is {table[at]} and not {after[at]}")
         if wrong:
             self.differences.append(Difference(case, answer, array, wrong))
-        self.count(case.name, answer)
+        self.count(case, answer)
         return answer, after
 
-    def count(self, name: str, answer: list[int]) -> None:
+    def count(self, case: Case, answer: list[int]) -> None:
         """Count the call, and what it said."""
+        name = case.name
+        if name == "look" and case.numbers[0] == checker.NO_NODE:
+            self.counts[name, f"unnamed {answer[0]}"] += 1
         if name == "line":
             self.counts[name, "part" if answer[1] > 0 else "empty"] += 1
             return
@@ -554,7 +558,8 @@ class Play:
                 self.call("fresh")
         for name in ("finish", "close", "finish"):
             self.call(name)
-        self.call("look", self.job.owner[0], 0, self.job.sizes.formulas - 1)
+        for node in (checker.NO_NODE, self.job.owner[0]):
+            self.call("look", node, 0, self.job.sizes.formulas - 1)
 
     # ---- lists from any table
 

@@ -1,8 +1,8 @@
 """A second model of the cell table, written apart from the product.
 
-It follows document 01 ("A cell table for cut-up state machines") and nothing
-else.  Names in quotes are that document's headings.  The standard library is
-all it needs.
+It follows document 01 ("A cell table for cut-up state machines"), document 02
+where it changes that one, and nothing else.  Names in quotes are document 01's
+headings.  The standard library is all it needs.
 
 * `read`, `line`: the job text.
 * `fresh`, `step`, `offer`, `accept`, `look`, `close`, `finish`: the calls on a
@@ -31,7 +31,8 @@ FALSE, TRUE, EMPTY = 0, 1, 2
 """What a cell holds ("Fragments and cells")."""
 
 NO_NODE = 255
-"""Look: no node is named, read as node 0 ("Messages, closing, finishing")."""
+"""Look: no node is named ("Messages, closing, finishing"), which is read as the
+owner of the state (document 02, (ii))."""
 
 LONGEST = 25_877
 """The bytes of the longest text ("Job text")."""
@@ -601,14 +602,15 @@ def accept(
 
 @call(3)
 def look(text: bytes, table: bytes, node: int, state: int, formula: int) -> Answer:
-    """Questions 1 to 12, 18.  The answer is the cell, 2 included."""
+    """Questions 1 to 12, 18.  The answer is the cell, 2 included; where no node
+    is named, the owner's."""
     job = parse(text)
     ask_table(job, table)
     ask(node < job.sizes.nodes or node == NO_NODE, 11)
     ask_names(job, state, formula)
-    named = 0 if node == NO_NODE else node
-    ask(state in job.fragment[named], 18)
-    return [0, 0, table[job.cell(named, state, formula)]], bytes(table)
+    read = job.owner[state] if node == NO_NODE else node
+    ask(state in job.fragment[read], 18)
+    return [0, 0, table[job.cell(read, state, formula)]], bytes(table)
 
 
 @call(4)

@@ -2,11 +2,12 @@
 
     selftest.py [--seed N] [--count N]
 
-Demand 3 on random lists of calls, any tables, the sets of an until against all
-sets, truth by a second definition on tiny jobs, finish by plain rounds, and
-every damaged text against what it was made for.  Rule text by a second way of
-reading, every short text among them, against what is told of it by hand, and
-the truth of a rule against that of its lines.
+Demand 3 on random lists of calls, any tables, look without a node against look
+at the owner, the sets of an until against all sets, truth by a second definition
+on tiny jobs, finish by plain rounds, and every damaged text against what it was
+made for.  Rule text by a second way of reading, every short text among them,
+against what is told of it by hand, and the truth of a rule against that of its
+lines.
 """
 
 from __future__ import annotations
@@ -218,6 +219,7 @@ def check_wild(rng: random.Random, text: bytes, tally: Tally) -> None:
     for make_table in (wild_table, slanted_table, open_table):
         tally.tables += 1
         table = make_table(rng, job)
+        check_unnamed(text, table)
         node = rng.randrange(job.sizes.nodes)
         answer, after = checker.step(text, table, node)
         assert answer[2] == sum(x != y for x, y in zip(table, after))
@@ -241,6 +243,21 @@ def check_wild(rng: random.Random, text: bytes, tally: Tally) -> None:
         assert checker.step(text, bad, 0) == ([9, 0, 0], bad)
         bad = bad_table(rng, job)
         assert checker.finish(text, bad) == ([10, 0, 0, 0, 0], bad)
+
+
+def check_unnamed(text: bytes, table: bytes) -> None:
+    """Look without a node is look at the owner and never 18; there is no owner
+    of a state that is not there, and other calls know no node 255."""
+    job = checker.parse(text)
+    states, formulas = job.sizes.states, job.sizes.formulas
+    for s, k in itertools.product(range(states), range(formulas)):
+        unnamed = checker.look(text, table, checker.NO_NODE, s, k)
+        assert unnamed == checker.look(text, table, job.owner[s], s, k)
+        assert unnamed == ([0, 0, table[job.cell(job.owner[s], s, k)]], table)
+    for s, k in ((states, 0), (0, formulas)):
+        assert checker.look(text, table, checker.NO_NODE, s, k) == ([12, 0, 0], table)
+    assert checker.step(text, table, checker.NO_NODE) == ([11, 0, 0], table)
+    assert checker.accept(text, table, checker.NO_NODE, 0, 0, 0) == ([11, 0, 0], table)
 
 
 def check_damages(rng: random.Random, pictured: Picture, tally: Tally) -> None:

@@ -14,7 +14,7 @@ pub enum Looked {
     Refused(Refusal),
 }
 
-// The cell of a node, state and subformula. The table stays.
+// The cell of a node, state and subformula; node 255 is the state's owner. The table stays.
 pub fn look(text: &[u8], table: &[u8], node: usize, state: usize, subformula: usize) -> Looked
     ensures told { λ r. ⌜ lookTold r ≡ answer (Call.look node state subformula) (now (text .entry)) (now (table .entry)) ⌝ }
     ensures left { λ _. ⌜ now (table .entry) ≡ after (Call.look node state subformula) (now (text .entry)) (now (table .entry)) ⌝ }
@@ -24,5 +24,6 @@ pub fn look(text: &[u8], table: &[u8], node: usize, state: usize, subformula: us
     if why.number != 0 {
         return Looked::Refused(why);
     }
-    Looked::Accepted(cell(&m, table, node_read(node), state, subformula))
+    let read = node_read(&m, node, state);
+    Looked::Accepted(cell(&m, table, read, state, subformula))
 }

@@ -1,20 +1,25 @@
 -- A call by its questions. A text that the reader refuses is refused so by every call, and the table stays; on a text that it accepts
--- a call comes to what the number of the first no to its own questions says. Assumes nothing.
-use Prim.Native.Nat.{ℕ, _*_}
+-- a call comes to what the number of the first no to its own questions says. And the node that look reads. Assumes nothing.
+use Prim.Native.Nat.{ℕ, _*_, _<_}
 use mathlib.Core.Path.{_≡_, refl, sym, ap₂}
-use mathlib.Core.Bool.{true}
+use mathlib.Core.Bool.{true, _||_}
+use mathlib.Core.Logic.{⊎-elim}
 use mathlib.Core.List.{[]}
 use mathlib.Core.Option.{Option·elim}
 use native.Mathlib.Omega.{arith}
-use borrow.Author.Tests.{eq-eqb, ne-eqb}
+use borrow.Author.Tests.{eq-eqb, ne-eqb, eqb-true, ltb-true}
 use lib.ListN.{length}
+use lib.Dec.{ltb, eqb}
 use Rattle.law.specs.Lists.{every}
+use Rattle.law.proofs.Bool.{or-cases}
+use Rattle.law.proofs.Bounded.{by-equal}
 use Rattle.text.specs.Field.{Text}
-use Rattle.job.specs.Job.{Job, decode}
+use Rattle.job.specs.Job.{Job, size, decode}
 use Rattle.job.specs.Answer.{accepted, refused}
 use Rattle.job.specs.Question.{isOwn, ofCall, refusal, noNumber}
 use Rattle.job.specs.Questions.{textQuestions, Accepted}
 use Rattle.job.specs.Read.{readAnswer, readTold, refusalOf}
+use Rattle.job.specs.Written.{IsJob}
 use Rattle.job.specs.declared.reading.Header.{Header}
 use Rattle.job.specs.declared.reading.Refusal.{Refusal}
 use Rattle.job.specs.declared.reading.Reading.{Reading}
@@ -23,7 +28,7 @@ use Rattle.job.proofs.QuestionLaws.{noNumber-yes, noNumber-no, later-accepted, 
 use Rattle.job.proofs.ReadLaws.{text-refuses, reading-refuses, size-told, subformulas-told, nodes-told}
 use Rattle.cells.specs.Table.{Table, tableLength, freshTable}
 use Rattle.cells.specs.Questions.{tableSize, tableCells, nodeBelow, nodeOr255, numbersBelow, temporalNamed, ownerFilled, truthValue, stateAtBorder, cellAgrees, stateInFragment, tableSettled, someOwnerEmpty}
-use Rattle.cells.specs.Calls.{Call, fresh, step, offer, accept, look, close, finish, told, left, ownQuestions, questions, width, answer, after}
+use Rattle.cells.specs.Calls.{Call, fresh, step, offer, accept, look, close, finish, told, left, nodeRead, ownQuestions, questions, width, answer, after}
 
 -- Questions 9 to 20 have a number and no line.
 own-questions : (c : Call) (J : Job) (t : Table) → every isOwn (ownQuestions c J t) ≡ true
@@ -91,3 +96,14 @@ pub length-read :
     (x : Text) (h : Header) → readTold (Taken h) ≡ readAnswer x → tableLength (decode x) ≡ h .nodes * h .states * h .subformulas
 unfolding tableLength
 length-read x h told = ap₂ _*_ (ap₂ _*_ (nodes-told x h told) (size-told x h told)) (subformulas-told x h told)
+
+-- Behind questions 11 and 12 look reads a node of the job.
+pub read-below :
+    (J : Job) → IsJob J → (n s : ℕ) → (ltb n (J .nodes) || eqb n 255) ≡ true → s < size J → nodeRead J n s < J .nodes
+unfolding nodeRead
+read-below J job n s named state =
+    by-equal n 255
+    (λ e. rw (eq-eqb n 255 e) (job .owners s state))
+    (λ e.
+    rw (ne-eqb n 255 e)
+    (⊎-elim (ltb-true n (J .nodes)) (λ z. absurd (e (eqb-true n 255 z))) (or-cases (ltb n (J .nodes)) (eqb n 255) named)))

@@ -1,4 +1,5 @@
--- C1 to C10, and the cases that tell what is ruled out, follow from the definitions: both sides are computed. Assumes nothing.
+-- C1 to C10, the cases that tell what is ruled out and the one that looks without naming a node follow from the definitions: both sides are
+-- computed. Assumes nothing.
 use mathlib.Core.Path.{_≡_, refl}
 use mathlib.Core.List.{map}
 use mathlib.Core.Option.{Option·elim}
@@ -23,6 +24,7 @@ use Rattle.cells.specs.Close.{isTemporal, acceptTable, copyTable, stepsD
 use Rattle.cells.specs.Finish.{stepsUpTo, exchange, closing, round, roundsFrom, finish, verdict as finish-verdict}
 use Rattle.cells.specs.Cases.{verdictCalls, bytes, answers, tableAfter, jobV, job2, job3, job4, job6, job10, cases, zeros, computed}
 use Rattle.cells.specs.RuledOut.{ruledOut}
+use Rattle.cells.specs.UnnamedNode.{unnamedNode}
 
 unfoldable pub printed : map computed cases ≡ cases
 unfolding first all any count from tab flatten every some member pass passes least greatest digits columns field wellFormed value numberAt formed states edges subformulas nodes lengthOf stateAt edgeAt subformulaAt ownerField job-owner labelField sourceField targetField kindField leftField calls-left rightField lines fieldsOf lineAt atomic unary binary parsed isFormula formula ofCall allYes refusal Option·elim answered afterwards ofLineOne ofLines firstLine ranges textLength lineFields stateLines edgeLines edgesOut formulaLines headQuestions lineQuestions textQuestions within inRanges formedLine stateOk less ascends edgeOk hasEdgeOut formulaOk numbers readAnswer readTold lineOf atom edge dual over size subformulaCount subformula decode owns inFragment edgeOut border inner tableLength index nodeOf stateOf subformulaOf cell ownerCell isEmpty inside cellsRight freshTable fillAt fill filled emptyCells joins smallest stays largest bySets opposite both next column stepColumn stepUpTo stepTable isTemporal acceptTable copyTable stepsDone copiesDone settled open? smallestOpen someOpen closeTable stepsUpTo exchange closing round roundsFrom finish finish-verdict verdictCalls tableSize tableCells nodeBelow nodeOr255 numbersBelow temporalNamed ownerFilled truthValue stateAtBorder cellAgrees stateInFragment tableSettled someOwnerEmpty nodeRead ownQuestions questions width told answer after bytes answers tableAfter jobV job2 job3 job4 job6 job10 cases zeros computed
@@ -32,3 +34,7 @@ printed = refl
 pub ruled-out : map computed ruledOut ≡ ruledOut
 unfolding printed ruledOut
 ruled-out = refl
+
+pub unnamed-node : map computed unnamedNode ≡ unnamedNode
+unfolding printed unnamedNode
+unnamed-node = refl

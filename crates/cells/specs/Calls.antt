@@ -1,11 +1,12 @@
--- Document 01's calls on a table. For each its questions in order, and for any text, any table and any numbers passed its whole
--- answer and the whole table afterwards: the functions that the contracts cite and that demand 3 is about. Assumes nothing.
+-- Document 01's calls on a table, look as document 02 (ii) has it. For each its questions in order, and for any text, any table and
+-- any numbers passed its whole answer and the whole table afterwards: the functions that the contracts cite and that demand 3 is
+-- about. Assumes nothing.
 use Prim.Native.Nat.{ℕ}
 use mathlib.Core.Bool.{cond}
 use mathlib.Core.List.{List, [], _∷_, _++_}
 use lib.Dec.{eqb}
 use Rattle.text.specs.Field.{Text}
-use Rattle.job.specs.Job.{Job, decode}
+use Rattle.job.specs.Job.{Job, owner, decode}
 use Rattle.job.specs.Answer.{Answer}
 use Rattle.job.specs.Question.{Question, answered, afterwards}
 use Rattle.job.specs.Questions.{textQuestions}
@@ -25,9 +26,10 @@ pub data Call : Type 0 where
   close : Call
   finish : Call
 
--- "Node 255 means that no node is named and is read as node 0."
-unfoldable pub nodeRead : ℕ → ℕ
-nodeRead n = cond (eqb n 255) 0 n
+-- The node whose cell look gives. "Node 255 means that no node is named"; document 02 (ii): "255 is read as the owner of the
+-- state."
+unfoldable pub nodeRead : Job → ℕ → ℕ → ℕ
+nodeRead J n s = cond (eqb n 255) (owner J s) n
 
 -- "Fresh 1 to 9; step 1 to 11; offer 1 to 10, 12 to 14; accept 1 to 13, 15 to 17; look 1 to 12, 18; close 1 to 10, 19, 20;
 -- finish 1 to 10": those behind 8.
@@ -41,7 +43,7 @@ ownQuestions (accept n s k v) J t =
     ∷ cellAgrees J t n s k v
     ∷ []
 ownQuestions (look n s k) J t =
-    tableSize J t ∷ tableCells J t ∷ nodeOr255 J n ∷ numbersBelow J s k ∷ stateInFragment J (nodeRead n) s ∷ []
+    tableSize J t ∷ tableCells J t ∷ nodeOr255 J n ∷ numbersBelow J s k ∷ stateInFragment J (nodeRead J n s) s ∷ []
 ownQuestions close J t = tableSize J t ∷ tableCells J t ∷ tableSettled J t ∷ someOwnerEmpty J t ∷ []
 ownQuestions finish J t = tableSize J t ∷ tableCells J t ∷ []
 
@@ -65,7 +67,7 @@ told fresh J t = []
 told (step n) J t = filled t (stepTable J n t) ∷ []
 told (offer s k) J t = s ∷ k ∷ ownerCell J t s k ∷ []
 told (accept n s k v) J t = filled t (acceptTable J n s k v t) ∷ []
-told (look n s k) J t = cell J t (nodeRead n) s k ∷ []
+told (look n s k) J t = cell J t (nodeRead J n s) s k ∷ []
 told close J t = smallestOpen J t ∷ filled t (closeTable J t) ∷ []
 told finish J t =
     let done = finishing.finish J t in

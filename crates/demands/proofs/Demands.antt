@@ -1,21 +1,21 @@
 -- The demands and what the change requests promise, sentence by sentence and in their words, each proved by citing what did the work. What a call
 -- comes to is said by its function's contract: `Happens l x c t a u`, the call c with text x on table t answers a and leaves u; `Rules l x b a u`,
 -- rule with text x on buffer b answers a and leaves u. The words are those of `promises/specs`. Assumes nothing.
-use Prim.Native.Nat.{ℕ, _≤_}
+use Prim.Native.Nat.{ℕ, _<_, _≤_}
 use mathlib.Core.Path.{_≡_}
 use mathlib.Core.List.{List, [], _∷_}
 use mathlib.Core.Logic.{_↔_}
 use lib.ListN.{length}
 use Rattle.text.specs.Field.{Text}
-use Rattle.job.specs.Job.{Job, Structure, decode}
+use Rattle.job.specs.Job.{Job, Structure, size, owner, decode}
 use Rattle.job.specs.Answer.{Answer, accepted, refused}
 use Rattle.job.specs.Questions.{textQuestions, Accepted}
 use Rattle.job.specs.Read.{header, lineOf}
 use Rattle.job.specs.Written.{IsJob}
 use Rattle.ctl.proofs.Total.{State, Total, total-job}
-use Rattle.cells.specs.Table.{Table}
+use Rattle.cells.specs.Table.{Table, ownerCell}
 use Rattle.cells.specs.SetRule.{SetRule}
-use Rattle.cells.specs.Calls.{Call, step, finish, questions, width, told}
+use Rattle.cells.specs.Calls.{Call, step, accept, look, finish, questions, width, told}
 use Rattle.cells.specs.Cases.{bytes, jobV, job2, job3}
 use Rattle.rule_text.specs.Tree.{Tree}
 use Rattle.rule_text.specs.Grammar.{Means}
@@ -27,6 +27,7 @@ use Rattle.promises.specs.Contracts.{Loan, Happens, Reads, HandsBack, Prints, R
 use Rattle.promises.specs.Demand1.{AnswersBy}
 use Rattle.promises.specs.Demand2.{Accepts, JobText, FilledByRules, SmallestAndLargest, Judged}
 use Rattle.promises.specs.Demand3.{FreshFor, ListOfCalls, leftBy, AsDefined, CellsTrue, OneMoreFinish, OneMachine}
+use Rattle.promises.specs.UnnamedNode.{ownerQuestions, noSuchNode}
 use Rattle.promises.specs.RuleText.{LinesWritten, LastLineIsTruth, LinesInOrder, InJob, RulePrinted}
 use Rattle.demands.specs.Functions.{AsksNothing, Proved}
 use Rattle.demands.proofs.Proved.{asks-nothing, proved}
@@ -37,7 +38,8 @@ use Rattle.promises.proofs.Filled.{happens-filled, sets-are}
 use Rattle.promises.proofs.Ends.{calls-defined, calls-cells, calls-finish, fresh-finish, same-verdict}
 use Rattle.promises.proofs.Judged.{prints-judged}
 use Rattle.promises.proofs.RuleText.{rules-first, rules-stay, rules-exact, rules-written, rules-in-job, means-in-order, rules-agree, prints-rule}
-use Rattle.promises.proofs.Hypotheses.{fresh-for, one-machine, example}
+use Rattle.promises.proofs.UnnamedNode.{happens-named, happens-owner, happens-unnamed, happens-never-18, happens-step-255, happens-accept-255}
+use Rattle.promises.proofs.Hypotheses.{lent, fresh-for, one-machine, example, looked}
 
 -- Demand 1. "Any bytes and any numbers:
 pub any-bytes-and-any-numbers : AsksNothing
@@ -152,8 +154,40 @@ pub spellings-agree :
     → (a ≡ c) × (u ≡ w)
 spellings-agree = rules-agree
 
+-- Request (ii), an unnamed node means the owner. "From now on 255 is read as the owner of the state":
+module _ (l : Loan) (x : Text) (s k : ℕ) (t u : Table) where
+  -- look answers as it does to whoever names the owner,
+  pub unnamed-is-the-owner :
+      (m : Loan) (w : Table) (a b : Answer)
+      → s < size (decode x)
+      → Happens l x (look 255 s k) t a u
+      → Happens m x (look (owner (decode x) s) s k) t b w
+      → a ≡ b
+  unnamed-is-the-owner = happens-named x t s k l u
+
+  -- and gives the owner's cell.
+  pub unnamed-gives-the-owners-cell : (own : List ℕ) → Happens l x (look 255 s k) t (accepted own) u → own ≡ ownerCell (decode x) t s k ∷ []
+  unnamed-gives-the-owners-cell = happens-owner x t s k l u
+
+  -- It is refused under 1 to 10 and 12 alone, in this order: where there is no such state no owner is sought.
+  pub unnamed-reads-or-refuses :
+      (a : Answer) → Happens l x (look 255 s k) t a u → AnswersBy (ownerQuestions x t s k) 1 (ownerCell (decode x) t s k ∷ []) a
+  unnamed-reads-or-refuses = happens-unnamed x t s k l u
+
+  -- "For 255, number 18 can no longer occur."
+  pub unnamed-never-18 : (number line others : ℕ) → Happens l x (look 255 s k) t (refused number line others) u → number ≡ 18 → ⊥
+  unnamed-never-18 = happens-never-18 x t s k l u
+
+-- Every other call that names a node refuses 255 as before, with 11 where nothing before it fails.
+module _ (l : Loan) (x : Text) (t u : Table) (a : Answer) where
+  pub step-refuses-255 : Happens l x (step 255) t a u → AnswersBy (noSuchNode x t) 1 [] a
+  step-refuses-255 = happens-step-255 x t l a u
+
+  pub accept-refuses-255 : (s k v : ℕ) → Happens l x (accept 255 s k v) t a u → AnswersBy (noSuchNode x t) 1 [] a
+  accept-refuses-255 = happens-accept-255 x t l a u
+
 -- What is supposed here can be had: what is defined may happen, a table fresh for a text, two cuttings of one machine, a list with messages, a
--- rule within the limits, and structures in which each state has an edge out.
+-- rule within the limits, structures in which each state has an edge out, and a look without a node that is accepted.
 pub defined-may-happen : (l : Loan) (x : Text) → MayHappen l x
 defined-may-happen = may-happen
 
@@ -171,3 +205,6 @@ a-rule-in-limits = example-limits
 
 pub jobs-have-edges-out : (J : Job) → IsJob J → Total (J .structure)
 jobs-have-edges-out = total-job
+
+pub a-look-without-a-node : (t : Table) × Happens lent (bytes job2) (look 255 1 2) t (accepted (1 ∷ [])) t
+a-look-without-a-node = looked

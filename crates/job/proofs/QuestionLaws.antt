@@ -17,7 +17,7 @@ use Rattle.job.specs.Question.{Question, isOwn, allYes, refusal, noNumbe
 pub refused-not-accepted : (own : List ℕ) (number line others : ℕ) → accepted own ≡ refused number line others → ⊥
 refused-not-accepted own number line others e = let z : _≡_ {A = ℕ} 0 1 = cc in omega arith
 
-some-not-none : (q : Question) → opt.some q ≡ opt.none → ⊥
+pub some-not-none : (q : Question) → opt.some q ≡ opt.none → ⊥
 some-not-none q e = let z : _≡_ {A = ℕ} 0 1 = cc in omega arith
 
 -- By the first no, or that there is none.
@@ -30,11 +30,11 @@ by-refusal {A} qs accepts refuses = by (refusal qs) refl
 
 -- One question and then the others.
 module _ (q : Question) (qs : List Question) where
-  refusal-yes : q .test ≡ true → refusal (q ∷ qs) ≡ refusal qs
+  pub refusal-yes : q .test ≡ true → refusal (q ∷ qs) ≡ refusal qs
   unfolding refusal
   refusal-yes e = cond-true (q .test) (refusal qs) (opt.some q) e
 
-  refusal-no : q .test ≡ false → refusal (q ∷ qs) ≡ opt.some q
+  pub refusal-no : q .test ≡ false → refusal (q ∷ qs) ≡ opt.some q
   unfolding refusal
   refusal-no e = cond-false (q .test) (refusal qs) (opt.some q) e
 
@@ -128,6 +128,13 @@ module _ (ps qs : List Question) where
   pub answered-behind : (others : ℕ) (own : List ℕ) → allYes ps ≡ true → answered (ps ++ qs) others own ≡ answered qs others own
   unfolding answered
   answered-behind others own e = rw (refusal-later (none-refused ps e))
+
+-- Two lists behind the same one come to the same if they do where that one has no no.
+pub refusal-behind : (ps qs rs : List Question) → (refusal ps ≡ opt.none → refusal qs ≡ refusal rs) → refusal (ps ++ qs) ≡ refusal (ps ++ rs)
+refusal-behind ps qs rs same =
+    by-refusal ps
+    (λ e. refusal-later ps qs e ∙ same e ∙ sym (refusal-later ps rs e))
+    (λ q e. refusal-first ps qs q e ∙ sym (refusal-first ps rs q e))
 
 -- The first no is one of the questions.
 pub refusal-has : (p : Question → Bool) (qs : List Question) (q : Question) → every p qs ≡ true → refusal qs ≡ opt.some q → p q ≡ true

@@ -11,7 +11,7 @@ use Rattle.job.specs.Job.{decode}
 use Rattle.job.specs.Answer.{accepted, refused}
 use Rattle.job.specs.Questions.{Accepted}
 use Rattle.cells.specs.Table.{Table, tableLength}
-use Rattle.cells.specs.Calls.{Call, fresh, step, offer, accept, close, answer, after}
+use Rattle.cells.specs.Calls.{Call, fresh, step, offer, accept, look, close, answer, after}
 use Rattle.cells.specs.Cases.{bytes, jobV, job2, job3, zeros}
 use Rattle.cells.proofs.CallLaws.{fresh-accepted}
 use Rattle.cells.proofs.Printed.{printed}
@@ -128,3 +128,11 @@ example =
       happened = played-happened calls start;
       meant = events-meant;
     }
+
+-- On the same job node 1 has stepped and no message has come: the owner's cell of state 1 is filled, node 0's is not.
+looked-at : Table
+looked-at = after (step 1) (bytes job2) start
+
+pub looked : (t : Table) × Happens lent (bytes job2) (look 255 1 2) t (accepted (1 ∷ [])) t
+unfolding printed start looked-at
+looked = (looked-at, may-happen lent (bytes job2) .call (look 255 1 2) looked-at)

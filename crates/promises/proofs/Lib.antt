@@ -7,3 +7,4 @@ pub mod Ends
 pub mod Judged
 pub mod Hypotheses
 pub mod RuleText
+pub mod UnnamedNode

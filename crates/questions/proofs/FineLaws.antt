@@ -4,11 +4,9 @@ use mathlib.Core.Path.{_≡_, refl, sym, _∙_}
 use mathlib.Core.Bool.{Bool, true, false, cond, not, _&&_, _||_}
 use mathlib.Core.List.{List, [], _∷_}
 use native.Mathlib.Omega.{arith}
-use borrow.Author.Tests.{eq-eqb, ne-eqb, eqb-true, ltb-true}
+use borrow.Author.Tests.{ltb-true}
 use lib.Dec.{eqb, ltb, leb}
-use Rattle.law.proofs.Bool.{or-cases}
 use Rattle.law.proofs.Bounded.{by-equal}
-use mathlib.Core.Logic.{⊎-elim}
 use Rattle.job.specs.Job.{size, subformulaCount}
 use Rattle.job.specs.Question.{Question, noNumber}
 use Rattle.job.proofs.QuestionLaws.{noNumber-first}
@@ -17,6 +15,7 @@ use Rattle.cells.specs.Table.{Table, cell, ownerCell, isEmpty}
 use Rattle.cells.specs.Close.{isTemporal, smallestOpen, settled, someOpen}
 use Rattle.cells.specs.Questions.{tableSize, tableCells}
 use Rattle.cells.specs.Calls.{Call, ownQuestions, nodeRead}
+use Rattle.cells.proofs.CallLaws.{read-below}
 use Rattle.cells.proofs.FragmentLaws.{border-inside}
 use Rattle.image.specs.Image.{IsImage, jobOf}
 use Rattle.table.specs.Lent.{Ready, IsCell}
@@ -76,22 +75,16 @@ module _ (m : List ℕ) (t : Table) (image : IsImage m) (r : ℕ) (none : r ≡ 
       (ready, (record { node-in = under; state-in = state; subformula-in = subformula }, border-inside (jobOf m) n s at-border))
 
   pub look-fine :
-      (n s k : ℕ) → r ≡ noNumber (ownQuestions (Call.look n s k) (jobOf m) t) → Ready m t × IsCell (jobOf m) (nodeRead n) s k
-  unfolding ownQuestions nodeRead
+      (n s k : ℕ) → r ≡ noNumber (ownQuestions (Call.look n s k) (jobOf m) t) → Ready m t × IsCell (jobOf m) (nodeRead (jobOf m) n s) s k
+  unfolding ownQuestions
   look-fine n s k asked =
       let ready = front-ready _ asked in
-      let at-18 : ℕ = cond (inFragment (jobOf m) (nodeRead n) s) 0 18 in
+      let at-18 : ℕ = cond (inFragment (jobOf m) (nodeRead (jobOf m) n s) s) 0 18 in
       let at-12 : ℕ = cond (ltb s (size (jobOf m)) && ltb k (subformulaCount (jobOf m))) at-18 12 in
       let (node, rest) = cond-zero (ltb n (jobOf m .nodes) || eqb n 255) at-12 10 (sym (look-number ready n s k) ∙ sym asked ∙ none) in
       let (numbers, last) = cond-zero (ltb s (size (jobOf m)) && ltb k (subformulaCount (jobOf m))) at-18 11 rest in
       let (state, subformula) = numbers-in (jobOf m) s k numbers in
-      let some = ready .lent .image .is-job .nodes .above in
-      let read : cond (eqb n 255) 0 n < jobOf m .nodes =
-      by-equal n 255
-      (λ e. rw (eq-eqb n 255 e) (omega arith))
-      (λ e.
-      rw (ne-eqb n 255 e)
-      (⊎-elim (ltb-true n (jobOf m .nodes)) (λ z. absurd (e (eqb-true n 255 z))) (or-cases (ltb n (jobOf m .nodes)) (eqb n 255) node))) in
+      let read = read-below (jobOf m) (image .is-job) n s node state in
       (ready, record { node-in = read; state-in = state; subformula-in = subformula })
 
   pub close-fine :

@@ -9,7 +9,7 @@ use borrow.Author.Tests.{eq-eqb, ne-eqb, eqb-true, lt-ltb, le-ltb, ltb-true, not
 use lib.ListN.{length}
 use lib.Dec.{eqb, ltb, leb}
 use Rattle.law.specs.Lists.{every}
-use Rattle.law.proofs.Bool.{or-left, or-right, split, cond-true, cond-false, and-left, and-right}
+use Rattle.law.proofs.Bool.{split, cond-true, cond-false, and-left, and-right}
 use Rattle.law.proofs.Bounded.{by-equal}
 use Rattle.job.specs.Job.{Job, size, subformulaCount}
 use mathlib.Core.Option.{Option·elim}
@@ -183,7 +183,7 @@ module _ {m : List ℕ} {t : Table} (ready : Ready m t) where
       (n s k : ℕ)
       → noNumber (ownQuestions (Call.look n s k) (jobOf m) t)
       ≡ cond (ltb n (jobOf m .nodes) || eqb n 255)
-      (cond (ltb s (size (jobOf m)) && ltb k (subformulaCount (jobOf m))) (cond (inFragment (jobOf m) (nodeRead n) s) 0 18) 12) 11
+      (cond (ltb s (size (jobOf m)) && ltb k (subformulaCount (jobOf m))) (cond (inFragment (jobOf m) (nodeRead (jobOf m) n s) s) 0 18) 12) 11
   unfolding ownQuestions nodeOr255 numbersBelow stateInFragment ofCall
   look-number n s k = behind-table _ ∙ simp (noNumber-cond, noNumber-none)
 
@@ -230,26 +230,6 @@ module _ (J : Job) (n s r : ℕ) (is : r ≡ placeOf J n s) where
 
   pub in-fragment : (r ≡ 0 → ⊥) → inFragment J n s ≡ true
   in-fragment some = not-false (inFragment J n s) (sym (place-outside J n s) ∙ ne-eqb (placeOf J n s) 0 (λ e. some (is ∙ e)))
-
--- Question 11 of look, in the node that is read.
-module _ (J : Job) (n r : ℕ) (is : r ≡ nodeRead n) where
-  pub read-no : 1 ≤ J .nodes → J .nodes ≤ r → (ltb n (J .nodes) || eqb n 255) ≡ false
-  unfolding nodeRead
-  read-no some over =
-      by-equal n 255
-      (λ e. let none : r ≡ 0 = is ∙ simp (eq-eqb n 255 e) in absurd (omega arith))
-      (λ e.
-      let same : r ≡ n = is ∙ simp (ne-eqb n 255 e) in
-      simp (le-ltb n (J .nodes) (rw same at over), ne-eqb n 255 e))
-
-  pub read-yes : r < J .nodes → (ltb n (J .nodes) || eqb n 255) ≡ true
-  unfolding nodeRead
-  read-yes under =
-      by-equal n 255
-      (λ e. or-right (ltb n (J .nodes)) (eqb n 255) (eq-eqb n 255 e))
-      (λ e.
-      let same : r ≡ n = is ∙ simp (ne-eqb n 255 e) in
-      or-left (ltb n (J .nodes)) (eqb n 255) (lt-ltb n (J .nodes) (rw same at under)))
 
 -- Question 14, in the cell that is read.
 module _ (cell r : ℕ) (is : r ≡ cell) where

@@ -1,5 +1,6 @@
 // The questions of the calls on a table. `ask` puts all those of a call, 1 to 8 and then its own, and gives the first refusal. Here is for
 // each call one function that puts its own and gives the number of the first no, 0 where there is none. Fresh puts its one itself.
+ghost use Prim.Native.Nat.{_<_};
 ghost use mathlib.Core.Path.{_≡_};
 ghost use mathlib.Core.Bool.{_&&_, _||_};
 ghost use mathlib.Core.List.{[], _∷_};
@@ -14,6 +15,7 @@ use closing::smallest_open;
 use exchange::settled::settled;
 use image::image::Image;
 use image::image::nodes;
+use image::image::owner;
 use image::image::place;
 use image::image::states;
 use image::image::subformula;
@@ -131,12 +133,28 @@ pub(crate) fn accept_no(m: &Image, table: &[u8], n: usize, s: usize, k: usize, v
     0
 }
 
-// The node that is looked at: 255 names none and is read as node 0.
-pub fn node_read(n: usize) -> usize
-    ensures { λ r. ⌜ r ≡ nodeRead n ⌝ }
+// To look this number names no node.
+const UNNAMED: usize = 255;
+
+// Question 11 of look: whether there is such a node, or none is named.
+fn is_node(m: &Image, n: usize) -> bool
+    requires { ⌜ IsImage (now m) ⌝ }
+    ensures { λ r. ⌜ r ≡ (ltb n (jobOf (now (m .entry)) .nodes) || eqb n 255) ⌝ }
 {
-    if n == 255 {
-        return 0;
+    if n < nodes(m) {
+        return true;
+    }
+    n == UNNAMED
+}
+
+// The node that is looked at: where none is named, the owner of the state.
+pub fn node_read(m: &Image, n: usize, s: usize) -> usize
+    requires { ⌜ IsImage (now m) ⌝ }
+    requires { ⌜ s < size (jobOf (now m)) ⌝ }
+    ensures { λ r. ⌜ r ≡ nodeRead (jobOf (now (m .entry))) n s ⌝ }
+{
+    if n == UNNAMED {
+        return owner(m, s);
     }
     n
 }
@@ -149,14 +167,13 @@ pub(crate) fn look_no(m: &Image, table: &[u8], n: usize, s: usize, k: usize) -> 
     if no != 0 {
         return no;
     }
-    let read = node_read(n);
-    if nodes(m) <= read {
+    if !is_node(m, n) {
         return 11;
     }
     if !are_in(m, s, k) {
         return 12;
     }
-    if place(m, read, s) == 0 {
+    if place(m, node_read(m, n, s), s) == 0 {
         return 18;
     }
     0

@@ -1,6 +1,5 @@
 -- `are_in`: both numbers are compared.
 use Prim.Native.Nat.{_<_, _≤_}
-use native.Mathlib.Omega.{arith}
 use borrow.Author.Tests.{lt-ltb, le-ltb}
 use Rattle.job.specs.Job.{size}
 use Rattle.image.specs.Image.{jobOf}

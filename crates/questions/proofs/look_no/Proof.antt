@@ -5,12 +5,12 @@ use mathlib.Core.Bool.{true, _&&_, _||_}
 use borrow.Author.Tests.{not-true, not-false}
 use lib.Dec.{ltb, eqb}
 use Rattle.job.specs.Job.{size, subformulaCount}
-use Rattle.cells.specs.Calls.{ownQuestions}
+use Rattle.cells.specs.Calls.{nodeRead, ownQuestions}
+use Rattle.cells.proofs.CallLaws.{read-below}
 use Rattle.image.specs.Image.{jobOf}
 use Rattle.table.specs.Lent.{Ready}
-use Rattle.questions.proofs.NoLaws.{table-first, table-ready, look-number, read-no, read-yes, numbers-in, out-of-fragment, in-fragment}
+use Rattle.questions.proofs.NoLaws.{table-first, table-ready, look-number, numbers-in, out-of-fragment, in-fragment}
 use borrow.Author.Needs.{needs}
-use native.Mathlib.Omega.{arith}
 use Rattle.questions.proofs.look_no.Statement.{statement}
 use Rattle.questions.proofs.look_no.Tie as tie
 
@@ -26,26 +26,20 @@ ready-here c =
 
 returns-2 : tie.Need-returns-2
 returns-2 c =
-    let start = c .before .before .before .before .before .before in
-    let J = jobOf (start .args .m .now) in
-    let many = c .before .nodes .ensures in
-    sym (look-number (ready-here (c .before .before .before)) _ _ _ ∙ simp (read-no J _ _ (c .before .before .node-read .ensures) (omega arith) (omega arith)))
+    sym (look-number (ready-here (c .before .before)) _ _ _ ∙ simp (sym (c .before .is-node .ensures) ∙ not-true _ (c .if2 .taken)))
 
 -- behind 11
 module _ (c : tie.Else2) where
   abbrev start-of : tie.Start
-  start-of = c .before .before .before .before .before .before
-
-  read-in : c .before .before .node-read .result < jobOf (start-of .args .m .now) .nodes
-  read-in = omega arith
+  start-of = c .before .before .before .before .before
 
   yes-11 : (ltb (start-of .args .n) (jobOf (start-of .args .m .now) .nodes) || eqb (start-of .args .n) 255) ≡ true
-  yes-11 = read-yes (jobOf (start-of .args .m .now)) _ _ (c .before .before .node-read .ensures) read-in
+  yes-11 = sym (c .before .is-node .ensures) ∙ not-false _ (c .if2 .left)
 
 returns-3 : tie.Need-returns-3
 returns-3 c =
     let e = c .before .before in
-    sym (look-number (ready-here (e .before .before .before)) _ _ _ ∙ simp (yes-11 e, sym (c .before .are-in .ensures) ∙ not-true _ (c .if3 .taken)))
+    sym (look-number (ready-here (e .before .before)) _ _ _ ∙ simp (yes-11 e, sym (c .before .are-in .ensures) ∙ not-true _ (c .if3 .taken)))
 
 -- behind 12
 module _ (c : tie.Else3) where
@@ -55,31 +49,33 @@ module _ (c : tie.Else3) where
   yes-12 : (ltb (passed .args .s) (size (jobOf (passed .args .m .now))) && ltb (passed .args .k) (subformulaCount (jobOf (passed .args .m .now)))) ≡ true
   yes-12 = sym (c .before .are-in .ensures) ∙ not-false _ (c .if3 .left)
 
-  numbers-here : (passed .args .s < size (jobOf (passed .args .m .now))) × (passed .args .k < subformulaCount (jobOf (passed .args .m .now)))
-  numbers-here = numbers-in _ _ _ yes-12
+  state-in : passed .args .s < size (jobOf (passed .args .m .now))
+  state-in = numbers-in _ _ _ yes-12 .0
+
+  read-in : nodeRead (jobOf (passed .args .m .now)) (passed .args .n) (passed .args .s) < jobOf (passed .args .m .now) .nodes
+  read-in = read-below (jobOf (passed .args .m .now)) (passed .pre .is-job) _ _ (yes-11 (c .before .before)) state-in
+
+node-read-requires : tie.Need-node-read-requires
+node-read-requires c κs = (passed c .pre, state-in c)
 
 place-requires : tie.Need-place-requires
-place-requires c κs =
-    let e = c .before .before in
-    (c .before .before .before .before .before .before .before .before .pre, (read-in e, numbers-here c .0))
+place-requires c κs = let e = c .before in (passed e .pre, (rw (c .node-read .ensures) (read-in e), state-in e))
 
 returns-4 : tie.Need-returns-4
 returns-4 c =
-    let e = c .before .before .before .before in
-    let f = c .before .before in
-    let node-is = e .before .before .node-read .ensures in
-    let place-is = rw node-is at (c .before .place .ensures) in
-    sym (look-number (ready-here (e .before .before .before)) _ _ _ ∙ simp (yes-11 e, yes-12 f, out-of-fragment _ _ _ _ place-is (c .if4 .taken)))
+    let e = c .before .before .before in
+    let d = e .before .before in
+    let place-is = rw (c .before .before .node-read .ensures) at (c .before .place .ensures) in
+    sym (look-number (ready-here (d .before .before)) _ _ _ ∙ simp (yes-11 d, yes-12 e, out-of-fragment _ _ _ _ place-is (c .if4 .taken)))
 
 returns-5 : tie.Need-returns-5
 returns-5 c =
-    let e = c .before .before .before .before in
-    let f = c .before .before in
-    let node-is = e .before .before .node-read .ensures in
-    let place-is = rw node-is at (c .before .place .ensures) in
-    sym (look-number (ready-here (e .before .before .before)) _ _ _ ∙ simp (yes-11 e, yes-12 f, in-fragment _ _ _ _ place-is (c .if4 .left)))
+    let e = c .before .before .before in
+    let d = e .before .before in
+    let place-is = rw (c .before .before .node-read .ensures) at (c .before .place .ensures) in
+    sym (look-number (ready-here (d .before .before)) _ _ _ ∙ simp (yes-11 d, yes-12 e, in-fragment _ _ _ _ place-is (c .if4 .left)))
 
 pub look-no-spec : {M : Type 1} → statement M
 look-no-spec =
-    let first = tie.spec (λ c κs. search needs) returns (λ c κs. search needs) (λ c κs. search needs) returns-2 (λ c κs. search needs) returns-3 in
-    tie.close (first place-requires returns-4 returns-5)
+    let first = tie.spec (λ c κs. search needs) returns (λ c κs. search needs) returns-2 (λ c κs. search needs) returns-3 in
+    tie.close (first node-read-requires place-requires returns-4 returns-5)

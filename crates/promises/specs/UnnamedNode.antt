@@ -1,0 +1,19 @@
+-- Request (ii), an unnamed node means the owner: "From now on 255 is read as the owner of the state. For 255, number 18 can no longer occur."
+-- The words of it that `demands/proofs/Demands.antt` uses. Assumes nothing.
+use Prim.Native.Nat.{ℕ}
+use mathlib.Core.Bool.{false}
+use mathlib.Core.List.{List, [], _∷_, _++_}
+use Rattle.text.specs.Field.{Text}
+use Rattle.job.specs.Job.{decode}
+use Rattle.job.specs.Question.{Question, ofCall}
+use Rattle.job.specs.Questions.{textQuestions}
+use Rattle.cells.specs.Table.{Table}
+use Rattle.cells.specs.Questions.{tableSize, tableCells, numbersBelow}
+
+-- What look can refuse that names the owner, or no node: 1 to 8, 9, 10 and 12.
+unfoldable pub ownerQuestions : Text → Table → ℕ → ℕ → List Question
+ownerQuestions x t s k = textQuestions x ++ (tableSize (decode x) t ∷ tableCells (decode x) t ∷ numbersBelow (decode x) s k ∷ [])
+
+-- What every other call refuses that names node 255: 1 to 8, 9, 10, and then 11, which is answered no.
+unfoldable pub noSuchNode : Text → Table → List Question
+noSuchNode x t = textQuestions x ++ (tableSize (decode x) t ∷ tableCells (decode x) t ∷ ofCall 11 false ∷ [])
