@@ -51,14 +51,14 @@ enum {
     SELAHMUR_BAD_SUBFORMULA = 8,    /* a kind that is not 1 to 7, or operands that do not fit the kind */
     SELAHMUR_TABLE_LENGTH = 9,      /* the table has not nodes * states * subformulas bytes */
     SELAHMUR_TABLE_CELLS = 10,      /* a byte above 2, or a filled cell outside the node's fragment */
-    SELAHMUR_NO_SUCH_NODE = 11,     /* the node is not below the number of nodes (look: nor 255) */
+    SELAHMUR_NO_SUCH_NODE = 11,     /* the node is not below the number of nodes (look: nor SELAHMUR_NO_NODE) */
     SELAHMUR_NO_SUCH_CELL = 12,     /* no such state, or no such subformula */
     SELAHMUR_NOT_TEMPORAL = 13,     /* the subformula is not of kind 4 to 7 */
     SELAHMUR_OWNER_EMPTY = 14,      /* the owner's cell is empty */
     SELAHMUR_BAD_VALUE = 15,        /* the message's value is neither 0 nor 1 */
     SELAHMUR_NOT_BORDER = 16,       /* the state is not a border state of the node's fragment */
     SELAHMUR_OTHER_VALUE = 17,      /* the cell is filled with the other value */
-    SELAHMUR_OUTSIDE_FRAGMENT = 18, /* the state is not in the node's fragment */
+    SELAHMUR_OUTSIDE_FRAGMENT = 18, /* the state is not in the node's fragment; never with SELAHMUR_NO_NODE */
     SELAHMUR_NOT_SETTLED = 19,      /* a step or a message would still fill a cell */
     SELAHMUR_NOTHING_OPEN = 20,     /* every owner's cell is filled */
     SELAHMUR_BUFFER_LENGTH = 21,    /* the buffer has not 512 bytes */
@@ -81,7 +81,7 @@ enum {
     SELAHMUR_MOST_NUMBERS = 6 /* room for any answer */
 };
 
-/* Look: no node is named. */
+/* Look: no node is named, and the state's owner is read. */
 enum { SELAHMUR_NO_NODE = 255 };
 
 /* Rule: the bytes of the buffer, and of one line in it. */
@@ -115,7 +115,7 @@ void selahmur_offer(const uint8_t *text, size_t text_length, const uint8_t *tabl
 void selahmur_accept(const uint8_t *text, size_t text_length, uint8_t *table, size_t table_length, size_t node, size_t state,
                      size_t subformula, uint8_t value, size_t *answer, size_t answer_length);
 
-/* The cell of a node, a state and a subformula; SELAHMUR_NO_NODE is read as node 0. The table stays. Refusals 1 to 12 and 18.
+/* The cell of a node, a state and a subformula; SELAHMUR_NO_NODE is read as the state's owner. The table stays. Refusals 1 to 12 and 18.
  * Answer: number, line, the cell: 0, 1 or 2. */
 void selahmur_look(const uint8_t *text, size_t text_length, const uint8_t *table, size_t table_length, size_t node, size_t state,
                    size_t subformula, size_t *answer, size_t answer_length);

@@ -1,13 +1,13 @@
 -- Look with a number that is read as the owner of the state, which 255 is and the owner's own is: it puts 1 to 10 and 12, and gives the
 -- owner's cell. Step and accept with 255. Assumes nothing.
-use Prim.Native.Nat.{ℕ, _<_, _≤_}
+use Prim.Native.Nat.{ℕ, _<_}
 use mathlib.Core.Path.{_≡_, refl, sym, _∙_, ap}
-use mathlib.Core.Bool.{true, false, _&&_}
+use mathlib.Core.Bool.{true, false, not, _&&_}
 use mathlib.Core.List.{List, [], _∷_, _++_}
 use mathlib.Core.Option as opt
 use native.Mathlib.Omega.{arith}
-use borrow.Author.Tests.{lt-ltb, le-ltb, ltb-true, leb-true}
-use lib.Dec.{ltb, leb, eqb}
+use borrow.Author.Tests.{lt-ltb, le-ltb, ltb-true, eqb-false, not-true}
+use lib.Dec.{ltb, eqb}
 use Rattle.law.specs.Lists.{every}
 use Rattle.law.proofs.Bool.{split, and-left, or-left, or-right}
 use Rattle.text.specs.Field.{Text}
@@ -16,19 +16,22 @@ use Rattle.job.specs.Answer.{Answer, accepted, refused}
 use Rattle.job.specs.Question.{Question, ofCall, allYes, refusal, answered}
 use Rattle.job.specs.Questions.{textQuestions, Accepted, headQuestions, lineQuestions, firstLine, ranges, textLength, lineFields, stateLines, edgeLines, edgesOut, formulaLines, ofLineOne, ofLines}
 use Rattle.job.proofs.Exact.{decode-is-job}
-use Rattle.job.proofs.QuestionLaws.{some-not-none, by-refusal, refusal-yes, refusal-no, refusal-first, refusal-later, refusal-before, refusal-behind, refusal-has, all-answered-yes, answered-none, answered-some, accepted-own, refused-not-accepted}
+use Rattle.job.proofs.QuestionLaws.{some-not-none, by-refusal, refusal-yes, refusal-no, refusal-later, refusal-before, refusal-behind, refusal-has, all-answered-yes, answered-none, answered-some, accepted-own, refused-not-accepted}
 use Rattle.cells.specs.Table.{Table, ownerCell}
 use Rattle.cells.specs.Questions.{tableSize, tableCells, nodeBelow, nodeOr255, numbersBelow, stateInFragment}
 use Rattle.cells.specs.Calls.{Call, step, accept, look, nodeRead, ownQuestions, questions, width, told, answer}
 use Rattle.cells.proofs.FragmentLaws.{owns-intro, owned-inside}
 use Rattle.promises.specs.Contracts.{Loan, Happens}
-use Rattle.promises.specs.Demand1.{AnswersBy}
+use Rattle.promises.specs.Demand1.{AnswersBy, refuses}
 use Rattle.promises.specs.UnnamedNode.{ownerQuestions, noSuchNode}
 use Rattle.promises.proofs.Contracts.{happens-defined}
 use Rattle.promises.proofs.Calls.{answers-by}
 
 -- Where n is read as the owner of s, and question 11 lets n by.
-module _ (x : Text) (t : Table) (n s k : ℕ) (named : Accepted x → nodeOr255 (decode x) n .test ≡ true) (read : nodeRead (decode x) n s ≡ owner (decode x) s) where
+module _
+    (x : Text) (t : Table) (n s k : ℕ)
+    (named : Accepted x → nodeOr255 (decode x) n .test ≡ true)
+    (read : nodeRead (decode x) n s ≡ owner (decode x) s) where
   abbrev J : Job
   J = decode x
 
@@ -70,17 +73,20 @@ module _ (x : Text) (t : Table) (s k : ℕ) where
       (λ is. or-left (ltb o (decode x .nodes)) (eqb o 255) (lt-ltb o (decode x .nodes) (decode-is-job x is .owners s state)))
       (split (eqb o 255) (λ e. simp e) (λ e. simp e))
 
-  -- none of these has a number above 12
-  at-most-12 : (q : Question) → refusal (ownerQuestions x t s k) ≡ opt.some q → q .number ≤ 12
+  -- none of these is 18
+  not-18 : (q : Question) → refusal (ownerQuestions x t s k) ≡ opt.some q → q .number ≡ 18 → ⊥
   unfolding ownerQuestions every textQuestions headQuestions lineQuestions firstLine ranges textLength lineFields stateLines edgeLines edgesOut formulaLines ofLineOne ofLines tableSize tableCells numbersBelow ofCall
-  at-most-12 q first = leb-true (q .number) 12 (refusal-has (λ q. leb (q .number) 12) (ownerQuestions x t s k) q refl first)
+  not-18 q first =
+      eqb-false (q .number) 18 (not-true (eqb (q .number) 18) (refusal-has (λ q. not (eqb (q .number) 18)) (ownerQuestions x t s k) q refl first))
 
   module _ (l : Loan) (u : Table) where
+    happens-answered : (a : Answer) → Happens l x (look 255 s k) t a u → a ≡ answered (ownerQuestions x t s k) 1 (ownerCell (decode x) t s k ∷ [])
+    happens-answered a happens = happens-defined l x (look 255 s k) t a u happens .0 ∙ unnamed-answered
+
     pub happens-unnamed :
         (a : Answer) → Happens l x (look 255 s k) t a u → AnswersBy (ownerQuestions x t s k) 1 (ownerCell (decode x) t s k ∷ []) a
     happens-unnamed a happens =
-        rw (happens-defined l x (look 255 s k) t a u happens .0 ∙ unnamed-answered)
-        (answers-by (ownerQuestions x t s k) 1 (ownerCell (decode x) t s k ∷ []))
+        rw (happens-answered a happens) (answers-by (ownerQuestions x t s k) 1 (ownerCell (decode x) t s k ∷ []))
 
     -- by the owner's own number
     pub happens-named :
@@ -90,27 +96,24 @@ module _ (x : Text) (t : Table) (s k : ℕ) where
         → Happens m x (look (owner (decode x) s) s k) t b w
         → a ≡ b
     happens-named m w a b state unnamed named =
-        happens-defined l x (look 255 s k) t a u unnamed .0
-        ∙ unnamed-answered
+        happens-answered a unnamed
         ∙ sym (happens-defined m x (look (owner (decode x) s) s k) t b w named .0 ∙ named-answered state)
 
     pub happens-owner : (own : List ℕ) → Happens l x (look 255 s k) t (accepted own) u → own ≡ ownerCell (decode x) t s k ∷ []
     happens-owner own happens =
-        accepted-own (ownerQuestions x t s k) 1 (ownerCell (decode x) t s k ∷ []) own
-        (happens-defined l x (look 255 s k) t (accepted own) u happens .0 ∙ unnamed-answered)
+        accepted-own (ownerQuestions x t s k) 1 (ownerCell (decode x) t s k ∷ []) own (happens-answered (accepted own) happens)
 
     pub happens-never-18 : (number line others : ℕ) → Happens l x (look 255 s k) t (refused number line others) u → number ≡ 18 → ⊥
     happens-never-18 number line others happens is-18 =
         let qs = ownerQuestions x t s k in
         let own = ownerCell (decode x) t s k ∷ [] in
-        let is = happens-defined l x (look 255 s k) t (refused number line others) u happens .0 ∙ unnamed-answered in
+        let is = happens-answered (refused number line others) happens in
         by-refusal qs
         (λ e. refused-not-accepted own number line others (sym (is ∙ answered-none qs 1 own e)))
         (λ q e.
         let same = is ∙ answered-some qs 1 own q e in
         let number-is : number ≡ q .number = cc in
-        let most = at-most-12 q e in
-        omega arith)
+        not-18 q e (sym number-is ∙ is-18))
 
 -- Calls whose question 11 is about the node 255.
 module _ (x : Text) (t : Table) where
@@ -119,7 +122,10 @@ module _ (x : Text) (t : Table) where
   unfolding nodeBelow
   no-255 is = let most = decode-is-job x is .nodes .below in ap (ofCall 11) (le-ltb 255 (decode x .nodes) (omega arith))
 
-  node-asked : (qs : List Question) → refusal (textQuestions x ++ (tableSize (decode x) t ∷ (tableCells (decode x) t ∷ (nodeBelow (decode x) 255 ∷ qs)))) ≡ refusal (noSuchNode x t)
+  node-asked :
+      (qs : List Question)
+      → refusal (textQuestions x ++ (tableSize (decode x) t ∷ (tableCells (decode x) t ∷ (nodeBelow (decode x) 255 ∷ qs))))
+      ≡ refusal (noSuchNode x t)
   unfolding noSuchNode Accepted ofCall
   node-asked qs =
       refusal-behind (textQuestions x) _ _
@@ -136,23 +142,21 @@ module _ (x : Text) (t : Table) where
       let behind-table = sym (refusal-later table node (refusal-before table node behind-text)) ∙ behind-text in
       some-not-none (ofCall 11 false) (sym (refusal-no (ofCall 11 false) [] refl) ∙ behind-table)
 
-  node-refused :
-      (c : Call) → width c ≡ 1 → refusal (questions c x t) ≡ refusal (noSuchNode x t) → answer c x t ≡ answered (noSuchNode x t) 1 []
-  unfolding answer
-  node-refused c one same =
-      by-refusal (noSuchNode x t) (λ none. absurd (always-refused none))
-      (λ q e.
-      answered-some (questions c x t) (width c) (told c (decode x) t) q (same ∙ e)
-      ∙ ap (refused (q .number) (q .line)) one
-      ∙ sym (answered-some (noSuchNode x t) 1 [] q e))
-
   module _ (l : Loan) (a : Answer) (u : Table) where
+    node-refused : (c : Call) → width c ≡ 1 → refusal (questions c x t) ≡ refusal (noSuchNode x t) → Happens l x c t a u → AnswersBy (noSuchNode x t) 1 [] a
+    unfolding answer
+    node-refused c one same happens =
+        by-refusal (noSuchNode x t) (λ none. absurd (always-refused none))
+        (λ q e.
+        refuses q e
+        (happens-defined l x c t a u happens .0
+        ∙ answered-some (questions c x t) (width c) (told c (decode x) t) q (same ∙ e)
+        ∙ ap (refused (q .number) (q .line)) one))
+
     pub happens-step-255 : Happens l x (step 255) t a u → AnswersBy (noSuchNode x t) 1 [] a
     unfolding questions ownQuestions width
-    happens-step-255 happens =
-        rw (happens-defined l x (step 255) t a u happens .0 ∙ node-refused (step 255) refl (node-asked [])) (answers-by (noSuchNode x t) 1 [])
+    happens-step-255 = node-refused (step 255) refl (node-asked [])
 
     pub happens-accept-255 : (s k v : ℕ) → Happens l x (accept 255 s k v) t a u → AnswersBy (noSuchNode x t) 1 [] a
     unfolding questions ownQuestions width
-    happens-accept-255 s k v happens =
-        rw (happens-defined l x (accept 255 s k v) t a u happens .0 ∙ node-refused (accept 255 s k v) refl (node-asked _)) (answers-by (noSuchNode x t) 1 [])
+    happens-accept-255 s k v = node-refused (accept 255 s k v) refl (node-asked _)

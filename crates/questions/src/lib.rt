@@ -133,8 +133,8 @@ pub(crate) fn accept_no(m: &Image, table: &[u8], n: usize, s: usize, k: usize, v
     0
 }
 
-// To look this number names no node.
-const UNNAMED: usize = 255;
+// Passed to look where no node is named.
+const NO_NODE: usize = 255;
 
 // Question 11 of look: whether there is such a node, or none is named.
 fn is_node(m: &Image, n: usize) -> bool
@@ -144,7 +144,7 @@ fn is_node(m: &Image, n: usize) -> bool
     if n < nodes(m) {
         return true;
     }
-    n == UNNAMED
+    n == NO_NODE
 }
 
 // The node that is looked at: where none is named, the owner of the state.
@@ -153,7 +153,7 @@ pub fn node_read(m: &Image, n: usize, s: usize) -> usize
     requires { ⌜ s < size (jobOf (now m)) ⌝ }
     ensures { λ r. ⌜ r ≡ nodeRead (jobOf (now (m .entry))) n s ⌝ }
 {
-    if n == UNNAMED {
+    if n == NO_NODE {
         return owner(m, s);
     }
     n

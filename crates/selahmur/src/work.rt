@@ -32,7 +32,7 @@ pub extern "C" fn selahmur_step(text: &[u8], table: &mut [u8], node: usize, out:
     store(out, &of_step(step(text, table, node)));
 }
 
-// The cell of a node, state and subformula; node 255 names none and is read as node 0. Own number: the cell, 2 where it is empty.
+// The cell of a node, state and subformula; node 255 names none and is read as the state's owner. Own number: the cell, 2 where it is empty.
 #[no_mangle]
 pub extern "C" fn selahmur_look(
     text: &[u8],
