@@ -183,7 +183,7 @@ def any_numbers(
     if borders and rng.randrange(2):
         node, state = rng.choice(borders)
     if name == "look":
-        return (255 if rng.randrange(4) == 0 else node, state, formula)
+        return (checker.NO_NODE if rng.randrange(4) == 0 else node, state, formula)
     if name == "accept":
         return (node, state, formula, number(2))
     return ()

@@ -11,13 +11,13 @@ unnamedNode =
       job = "    3    3    2    2\n    0    0\n    1    0\n    1    1\n    0    1\n    1    2\n    2    2\n    1    0    0\n    5    0    0\n";
       calls =
           fresh ∷ step 1
-          -- the owner's cell is filled, node 0's is empty: the old reading is had with 0
+          -- the owner's cell is filled; node 0's is empty, and read where node 0 is named
           ∷ look 255 1 1
           ∷ look 0 1 1
           -- node 0's fragment has no state 2
           ∷ look 255 2 1
           ∷ look 0 2 1
-          -- there is no state 3, and no owner is sought
+          -- there is no state 3 and no subformula 2: no owner is sought
           ∷ look 255 3 1
           ∷ look 255 2 2
           -- no other number is read so, and no other call

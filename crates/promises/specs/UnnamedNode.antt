@@ -10,10 +10,10 @@ use Rattle.job.specs.Questions.{textQuestions}
 use Rattle.cells.specs.Table.{Table}
 use Rattle.cells.specs.Questions.{tableSize, tableCells, numbersBelow}
 
--- What look can refuse that names the owner, or no node: 1 to 8, 9, 10 and 12.
+-- By which questions a look is refused that names the owner, or no node: 1 to 10, and 12.
 unfoldable pub ownerQuestions : Text → Table → ℕ → ℕ → List Question
 ownerQuestions x t s k = textQuestions x ++ (tableSize (decode x) t ∷ tableCells (decode x) t ∷ numbersBelow (decode x) s k ∷ [])
 
--- What every other call refuses that names node 255: 1 to 8, 9, 10, and then 11, which is answered no.
+-- By which every other call is that names node 255: 1 to 10, and 11, which is answered no.
 unfoldable pub noSuchNode : Text → Table → List Question
 noSuchNode x t = textQuestions x ++ (tableSize (decode x) t ∷ tableCells (decode x) t ∷ ofCall 11 false ∷ [])
