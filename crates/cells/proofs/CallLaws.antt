@@ -1,8 +1,9 @@
 -- A call by its questions. A text that the reader refuses is refused so by every call, and the table stays; on a text that it accepts
--- a call comes to what the number of the first no to its own questions says. And the node that look reads. Assumes nothing.
+-- a call comes to what the number of the first no to its own questions says. What a yes to question 12 says, and the node that look reads.
+-- Assumes nothing.
 use Prim.Native.Nat.{ℕ, _*_, _<_}
 use mathlib.Core.Path.{_≡_, refl, sym, ap₂}
-use mathlib.Core.Bool.{true, _||_}
+use mathlib.Core.Bool.{true, _&&_, _||_}
 use mathlib.Core.Logic.{⊎-elim}
 use mathlib.Core.List.{[]}
 use mathlib.Core.Option.{Option·elim}
@@ -11,10 +12,10 @@ use borrow.Author.Tests.{eq-eqb, ne-eqb, eqb-true, ltb-true}
 use lib.ListN.{length}
 use lib.Dec.{ltb, eqb}
 use Rattle.law.specs.Lists.{every}
-use Rattle.law.proofs.Bool.{or-cases}
+use Rattle.law.proofs.Bool.{and-left, and-right, or-cases}
 use Rattle.law.proofs.Bounded.{by-equal}
 use Rattle.text.specs.Field.{Text}
-use Rattle.job.specs.Job.{Job, size, decode}
+use Rattle.job.specs.Job.{Job, size, subformulaCount, decode}
 use Rattle.job.specs.Answer.{accepted, refused}
 use Rattle.job.specs.Question.{isOwn, ofCall, refusal, noNumber}
 use Rattle.job.specs.Questions.{textQuestions, Accepted}
@@ -96,6 +97,13 @@ pub length-read :
     (x : Text) (h : Header) → readTold (Taken h) ≡ readAnswer x → tableLength (decode x) ≡ h .nodes * h .states * h .subformulas
 unfolding tableLength
 length-read x h told = ap₂ _*_ (ap₂ _*_ (nodes-told x h told) (size-told x h told)) (subformulas-told x h told)
+
+-- Question 12, answered yes.
+pub numbers-in : (J : Job) (s k : ℕ) → (ltb s (size J) && ltb k (subformulaCount J)) ≡ true → (s < size J) × (k < subformulaCount J)
+numbers-in J s k e = (
+  ltb-true s (size J) (and-left (ltb s (size J)) (ltb k (subformulaCount J)) e),
+  ltb-true k (subformulaCount J) (and-right (ltb s (size J)) (ltb k (subformulaCount J)) e),
+)
 
 -- Behind questions 11 and 12 look reads a node of the job.
 pub read-below :

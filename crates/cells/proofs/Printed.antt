@@ -24,7 +24,7 @@ use Rattle.cells.specs.Close.{isTemporal, acceptTable, copyTable, stepsD
 use Rattle.cells.specs.Finish.{stepsUpTo, exchange, closing, round, roundsFrom, finish, verdict as finish-verdict}
 use Rattle.cells.specs.Cases.{verdictCalls, bytes, answers, tableAfter, jobV, job2, job3, job4, job6, job10, cases, zeros, computed}
 use Rattle.cells.specs.RuledOut.{ruledOut}
-use Rattle.cells.specs.UnnamedNode.{unnamedNode}
+use Rattle.cells.specs.LookWithoutNode.{lookWithoutNode}
 
 unfoldable pub printed : map computed cases ≡ cases
 unfolding first all any count from tab flatten every some member pass passes least greatest digits columns field wellFormed value numberAt formed states edges subformulas nodes lengthOf stateAt edgeAt subformulaAt ownerField job-owner labelField sourceField targetField kindField leftField calls-left rightField lines fieldsOf lineAt atomic unary binary parsed isFormula formula ofCall allYes refusal Option·elim answered afterwards ofLineOne ofLines firstLine ranges textLength lineFields stateLines edgeLines edgesOut formulaLines headQuestions lineQuestions textQuestions within inRanges formedLine stateOk less ascends edgeOk hasEdgeOut formulaOk numbers readAnswer readTold lineOf atom edge dual over size subformulaCount subformula decode owns inFragment edgeOut border inner tableLength index nodeOf stateOf subformulaOf cell ownerCell isEmpty inside cellsRight freshTable fillAt fill filled emptyCells joins smallest stays largest bySets opposite both next column stepColumn stepUpTo stepTable isTemporal acceptTable copyTable stepsDone copiesDone settled open? smallestOpen someOpen closeTable stepsUpTo exchange closing round roundsFrom finish finish-verdict verdictCalls tableSize tableCells nodeBelow nodeOr255 numbersBelow temporalNamed ownerFilled truthValue stateAtBorder cellAgrees stateInFragment tableSettled someOwnerEmpty nodeRead ownQuestions questions width told answer after bytes answers tableAfter jobV job2 job3 job4 job6 job10 cases zeros computed
@@ -35,6 +35,6 @@ pub ruled-out : map computed ruledOut ≡ ruledOut
 unfolding printed ruledOut
 ruled-out = refl
 
-pub unnamed-node : map computed unnamedNode ≡ unnamedNode
-unfolding printed unnamedNode
-unnamed-node = refl
+pub look-without-node : computed lookWithoutNode ≡ lookWithoutNode
+unfolding printed lookWithoutNode
+look-without-node = refl

@@ -10,4 +10,4 @@ pub mod Questions
 pub mod Calls
 pub mod Cases
 pub mod RuledOut
-pub mod UnnamedNode
+pub mod LookWithoutNode

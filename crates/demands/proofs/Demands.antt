@@ -27,7 +27,7 @@ use Rattle.promises.specs.Contracts.{Loan, Happens, Reads, HandsBack, Prints, R
 use Rattle.promises.specs.Demand1.{AnswersBy}
 use Rattle.promises.specs.Demand2.{Accepts, JobText, FilledByRules, SmallestAndLargest, Judged}
 use Rattle.promises.specs.Demand3.{FreshFor, ListOfCalls, leftBy, AsDefined, CellsTrue, OneMoreFinish, OneMachine}
-use Rattle.promises.specs.UnnamedNode.{ownerQuestions, noSuchNode}
+use Rattle.promises.specs.UnnamedNode.{unnamedQuestions, unknownNodeQuestions}
 use Rattle.promises.specs.RuleText.{LinesWritten, LastLineIsTruth, LinesInOrder, InJob, RulePrinted}
 use Rattle.demands.specs.Functions.{AsksNothing, Proved}
 use Rattle.demands.proofs.Proved.{asks-nothing, proved}
@@ -171,7 +171,7 @@ module _ (l : Loan) (x : Text) (s k : ℕ) (t u : Table) where
 
   -- It is refused under 1 to 10 and 12 alone, in this order: where there is no such state no owner is sought.
   pub unnamed-reads-or-refuses :
-      (a : Answer) → Happens l x (look 255 s k) t a u → AnswersBy (ownerQuestions x t s k) 1 (ownerCell (decode x) t s k ∷ []) a
+      (a : Answer) → Happens l x (look 255 s k) t a u → AnswersBy (unnamedQuestions x t s k) 1 (ownerCell (decode x) t s k ∷ []) a
   unnamed-reads-or-refuses = happens-unnamed x t s k l u
 
   -- "For 255, number 18 can no longer occur."
@@ -180,10 +180,10 @@ module _ (l : Loan) (x : Text) (s k : ℕ) (t u : Table) where
 
 -- Every other call that names a node refuses 255 as before, with 11 where nothing before it fails.
 module _ (l : Loan) (x : Text) (t u : Table) (a : Answer) where
-  pub step-refuses-255 : Happens l x (step 255) t a u → AnswersBy (noSuchNode x t) 1 [] a
+  pub step-refuses-255 : Happens l x (step 255) t a u → AnswersBy (unknownNodeQuestions x t) 1 [] a
   step-refuses-255 = happens-step-255 x t l a u
 
-  pub accept-refuses-255 : (s k v : ℕ) → Happens l x (accept 255 s k v) t a u → AnswersBy (noSuchNode x t) 1 [] a
+  pub accept-refuses-255 : (s k v : ℕ) → Happens l x (accept 255 s k v) t a u → AnswersBy (unknownNodeQuestions x t) 1 [] a
   accept-refuses-255 = happens-accept-255 x t l a u
 
 -- What is supposed here can be had: what is defined may happen, a table fresh for a text, two cuttings of one machine, a list with messages, a

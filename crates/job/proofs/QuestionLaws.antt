@@ -125,6 +125,9 @@ module _ (ps qs : List Question) where
   pub refusal-before : refusal (ps ++ qs) ≡ opt.none → refusal ps ≡ opt.none
   refusal-before none = by-refusal ps (λ e. e) (λ q e. absurd (some-not-none q (sym (refusal-first q e) ∙ none)))
 
+  pub refusal-last : refusal (ps ++ qs) ≡ opt.none → refusal qs ≡ opt.none
+  refusal-last none = sym (refusal-later (refusal-before none)) ∙ none
+
   pub answered-behind : (others : ℕ) (own : List ℕ) → allYes ps ≡ true → answered (ps ++ qs) others own ≡ answered qs others own
   unfolding answered
   answered-behind others own e = rw (refusal-later (none-refused ps e))

@@ -7,17 +7,15 @@ use mathlib.Core.List.{List}
 use mathlib.Core.Option as opt
 use native.Mathlib.Omega.{arith}
 use lib.ListN.{length, getD}
-use lib.Dec.{ltb}
 use borrow.Author.Tests.{ltb-true, leb-true, eqb-true}
 use Rattle.law.specs.Lists.{every}
-use Rattle.law.proofs.Bool.{and-left, and-right}
 use Rattle.law.proofs.Lists.{every-elim}
 use Rattle.text.specs.Field.{Text}
 use Rattle.job.specs.Job.{decode, size, subformulaCount}
 use Rattle.job.specs.Answer.{Answer, accepted, refused}
 use Rattle.job.specs.Question.{Question, ofCall, allYes, refusal, answered}
 use Rattle.job.specs.Questions.{textQuestions, Accepted}
-use Rattle.job.proofs.QuestionLaws.{by-refusal, none-refused, all-answered-yes, answered-none, answered-some, accepted-none, afterwards-none, refusal-before, refusal-later}
+use Rattle.job.proofs.QuestionLaws.{by-refusal, none-refused, all-answered-yes, answered-none, answered-some, accepted-none, afterwards-none, refusal-before, refusal-last, refusal-later}
 use Rattle.job.proofs.QuestionLaws as question
 use Rattle.cells.specs.Table.{Table, tableLength}
 use Rattle.cells.specs.Close as closing
@@ -25,6 +23,7 @@ use Rattle.cells.specs.Questions.{tableSize, tableCells, nodeBelow, numbersBelo
 use Rattle.cells.specs.Calls.{Call, fresh, step, offer, accept, close, finish, ownQuestions, questions, width, told, left, answer, after}
 use Rattle.promises.specs.Contracts.{Loan, Happens}
 use Rattle.promises.specs.Demand1.{AnswersBy, reads, refuses}
+use Rattle.cells.proofs.CallLaws.{numbers-in}
 use Rattle.cells.proofs.Formed.{Formed, is-formed}
 use Rattle.promises.proofs.Contracts.{happens-defined}
 
@@ -73,11 +72,10 @@ module _ (c : Call) (x : Text) (t : Table) where
         (i : ℕ)
         → i < length (ownQuestions c (decode x) t)
         → getD (ownQuestions c (decode x) t) i (tableSize (decode x) t) .test ≡ true
-    unfolding questions Accepted allYes
+    unfolding questions allYes
     taken-asked =
         let own = ownQuestions c (decode x) t in
-        every-elim (λ q. q .test) own (tableSize (decode x) t)
-        (all-answered-yes own (sym (refusal-later (textQuestions x) own taken-accepted) ∙ taken))
+        every-elim (λ q. q .test) own (tableSize (decode x) t) (all-answered-yes own (refusal-last (textQuestions x) own taken))
 
 module _ (x : Text) (t : Table) where
   pub fresh-asked : Taken fresh x t → length t ≡ tableLength (decode x)
@@ -90,11 +88,7 @@ module _ (x : Text) (t : Table) where
 
   pub offer-asked : (s k : ℕ) → Taken (offer s k) x t → (s < size (decode x)) × (k < subformulaCount (decode x))
   unfolding ownQuestions numbersBelow ofCall
-  offer-asked s k taken =
-      let S = size (decode x) in
-      let K = subformulaCount (decode x) in
-      let below = taken-asked (offer s k) x t taken 2 (omega arith) in
-      (ltb-true s S (and-left (ltb s S) (ltb k K) below), ltb-true k K (and-right (ltb s S) (ltb k K) below))
+  offer-asked s k taken = numbers-in (decode x) s k (taken-asked (offer s k) x t taken 2 (omega arith))
 
   pub accept-asked : (n s k v : ℕ) → Taken (accept n s k v) x t → v ≤ 1
   unfolding ownQuestions truthValue ofCall

@@ -1,6 +1,6 @@
--- The hypotheses of demand 3 can be met: every list of calls can be made, every accepted text has a table fresh for it, one machine has two
+-- The hypotheses of demand 3 and of request (ii) can be met: every list of calls can be made, every accepted text has a table fresh for it, one machine has two
 -- cuttings, and there is a list with a message in it: on case C2 node 1 steps and offers what it knows of its border state, node 0 accepts
--- it, accepts it again, and node 1 and an empty text are refused. Assumes nothing.
+-- it, accepts it again, and node 1 and an empty text are refused; and a look without a node is accepted there. Assumes nothing.
 use Prim.Native.Nat.{ℕ}
 use mathlib.Core.Path.{_≡_, refl, sym, subst}
 use mathlib.Core.List.{List, [], _∷_, map, List·Memᴰ, List·Memᴰ·head}

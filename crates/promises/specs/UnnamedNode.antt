@@ -10,10 +10,10 @@ use Rattle.job.specs.Questions.{textQuestions}
 use Rattle.cells.specs.Table.{Table}
 use Rattle.cells.specs.Questions.{tableSize, tableCells, numbersBelow}
 
--- By which questions a look is refused that names the owner, or no node: 1 to 10, and 12.
-unfoldable pub ownerQuestions : Text → Table → ℕ → ℕ → List Question
-ownerQuestions x t s k = textQuestions x ++ (tableSize (decode x) t ∷ tableCells (decode x) t ∷ numbersBelow (decode x) s k ∷ [])
+-- The questions that a look without a node may be refused by: 1 to 10, and 12.
+unfoldable pub unnamedQuestions : Text → Table → ℕ → ℕ → List Question
+unnamedQuestions x t s k = textQuestions x ++ (tableSize (decode x) t ∷ tableCells (decode x) t ∷ numbersBelow (decode x) s k ∷ [])
 
--- By which every other call is that names node 255: 1 to 10, and 11, which is answered no.
-unfoldable pub noSuchNode : Text → Table → List Question
-noSuchNode x t = textQuestions x ++ (tableSize (decode x) t ∷ tableCells (decode x) t ∷ ofCall 11 false ∷ [])
+-- Those of every other call that is passed node 255: 1 to 10, and 11, which is answered no, so that nothing behind it is asked.
+unfoldable pub unknownNodeQuestions : Text → Table → List Question
+unknownNodeQuestions x t = textQuestions x ++ (tableSize (decode x) t ∷ tableCells (decode x) t ∷ ofCall 11 false ∷ [])

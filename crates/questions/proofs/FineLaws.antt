@@ -15,11 +15,11 @@ use Rattle.cells.specs.Table.{Table, cell, ownerCell, isEmpty}
 use Rattle.cells.specs.Close.{isTemporal, smallestOpen, settled, someOpen}
 use Rattle.cells.specs.Questions.{tableSize, tableCells}
 use Rattle.cells.specs.Calls.{Call, ownQuestions, nodeRead}
-use Rattle.cells.proofs.CallLaws.{read-below}
+use Rattle.cells.proofs.CallLaws.{numbers-in, read-below}
 use Rattle.cells.proofs.FragmentLaws.{border-inside}
 use Rattle.image.specs.Image.{IsImage, jobOf}
 use Rattle.table.specs.Lent.{Ready, IsCell}
-use Rattle.questions.proofs.NoLaws.{table-ready, node-ready, offer-number, accept-number, look-number, close-number, numbers-in}
+use Rattle.questions.proofs.NoLaws.{table-ready, node-ready, offer-number, accept-number, look-number, close-number}
 
 -- a question that is answered yes, and those behind it too
 cond-zero : (b : Bool) (x y : ℕ) → cond b x (suc y) ≡ 0 → (b ≡ true) × (x ≡ 0)

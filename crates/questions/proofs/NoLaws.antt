@@ -9,7 +9,7 @@ use borrow.Author.Tests.{eq-eqb, ne-eqb, eqb-true, lt-ltb, le-ltb, ltb-true, not
 use lib.ListN.{length}
 use lib.Dec.{eqb, ltb, leb}
 use Rattle.law.specs.Lists.{every}
-use Rattle.law.proofs.Bool.{split, cond-true, cond-false, and-left, and-right}
+use Rattle.law.proofs.Bool.{split, cond-true, cond-false}
 use Rattle.law.proofs.Bounded.{by-equal}
 use Rattle.job.specs.Job.{Job, size, subformulaCount}
 use mathlib.Core.Option.{Option·elim}
@@ -250,10 +250,3 @@ module _ (J : Job) (t : Table) (k : ℕ) (is : k ≡ smallestOpen J t) where
   pub open-yes : k < subformulaCount J → someOpen J t ≡ true
   unfolding someOpen
   open-yes under = lt-ltb (smallestOpen J t) (subformulaCount J) (rw is at under)
-
--- Question 12, answered yes.
-pub numbers-in : (J : Job) (s k : ℕ) → (ltb s (size J) && ltb k (subformulaCount J)) ≡ true → (s < size J) × (k < subformulaCount J)
-numbers-in J s k e = (
-  ltb-true s (size J) (and-left (ltb s (size J)) (ltb k (subformulaCount J)) e),
-  ltb-true k (subformulaCount J) (and-right (ltb s (size J)) (ltb k (subformulaCount J)) e),
-)

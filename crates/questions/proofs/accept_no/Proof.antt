@@ -9,7 +9,8 @@ use Rattle.cells.specs.Close.{isTemporal}
 use Rattle.cells.specs.Calls.{ownQuestions}
 use Rattle.image.specs.Image.{jobOf}
 use Rattle.table.specs.Lent.{Ready, IsCell}
-use Rattle.questions.proofs.NoLaws.{node-first, node-ready, accept-number, named-no, named-yes, numbers-in, at-no-border, at-border}
+use Rattle.cells.proofs.CallLaws.{numbers-in}
+use Rattle.questions.proofs.NoLaws.{node-first, node-ready, accept-number, named-no, named-yes, at-no-border, at-border}
 use borrow.Author.Needs.{needs}
 use Rattle.questions.proofs.accept_no.Statement.{statement}
 use Rattle.questions.proofs.accept_no.Tie as tie

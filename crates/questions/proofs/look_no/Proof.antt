@@ -6,10 +6,10 @@ use borrow.Author.Tests.{not-true, not-false}
 use lib.Dec.{ltb, eqb}
 use Rattle.job.specs.Job.{size, subformulaCount}
 use Rattle.cells.specs.Calls.{nodeRead, ownQuestions}
-use Rattle.cells.proofs.CallLaws.{read-below}
+use Rattle.cells.proofs.CallLaws.{numbers-in, read-below}
 use Rattle.image.specs.Image.{jobOf}
 use Rattle.table.specs.Lent.{Ready}
-use Rattle.questions.proofs.NoLaws.{table-first, table-ready, look-number, numbers-in, out-of-fragment, in-fragment}
+use Rattle.questions.proofs.NoLaws.{table-first, table-ready, look-number, out-of-fragment, in-fragment}
 use borrow.Author.Needs.{needs}
 use Rattle.questions.proofs.look_no.Statement.{statement}
 use Rattle.questions.proofs.look_no.Tie as tie

@@ -7,7 +7,8 @@ use Rattle.job.specs.Job.{size, subformulaCount}
 use Rattle.cells.specs.Close.{isTemporal}
 use Rattle.image.specs.Image.{jobOf}
 use Rattle.messages.proofs.NewsLaws.{temporal-is}
-use Rattle.questions.proofs.NoLaws.{named-number, numbers-in}
+use Rattle.cells.proofs.CallLaws.{numbers-in}
+use Rattle.questions.proofs.NoLaws.{named-number}
 use borrow.Author.Needs.{needs}
 use Rattle.questions.proofs.named_no.Statement.{statement}
 use Rattle.questions.proofs.named_no.Tie as tie

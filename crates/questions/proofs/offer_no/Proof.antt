@@ -2,7 +2,8 @@
 use mathlib.Core.Path.{sym, _∙_}
 use Rattle.cells.specs.Calls.{ownQuestions}
 use Rattle.table.specs.Lent.{Ready}
-use Rattle.questions.proofs.NoLaws.{table-first, table-ready, offer-number, named-no, named-yes, numbers-in, empty-no, filled-yes}
+use Rattle.cells.proofs.CallLaws.{numbers-in}
+use Rattle.questions.proofs.NoLaws.{table-first, table-ready, offer-number, named-no, named-yes, empty-no, filled-yes}
 use borrow.Author.Needs.{needs}
 use Rattle.questions.proofs.offer_no.Statement.{statement}
 use Rattle.questions.proofs.offer_no.Tie as tie
