@@ -6,26 +6,19 @@ use mathlib.Core.Path.{_≡_, sym}
 use mathlib.Core.Bool.{Bool, true, not, true≢false}
 use mathlib.Core.List.{List}
 use mathlib.Core.Logic.{_↔_}
-use borrow.Author.Tests.{not-true}
-use Rattle.law.proofs.Bool.{split, clash, not-is-true, and-intro, and-left, and-right}
-use Rattle.job.specs.Job.{Structure, forAll, exists, subformula}
+use Rattle.law.proofs.Bool.{and-intro, and-left, and-right}
+use Rattle.job.specs.Job.{Structure, Quantifier, forAll, exists, dual, subformula}
 use Rattle.job.specs.Formula.{renamed}
 use Rattle.job.specs.Rule.{ruleOf, InRange}
 use Rattle.job.specs.Written.{Operands}
 use Rattle.job.specs.declared.subformula.Subformula.{Subformula}
-use Rattle.job.specs.declared.subformula.Subformula.the-variants.{Atom, Not, And, Ax, Ex, Au, Eu}
+use Rattle.job.specs.declared.subformula.Subformula.the-variants.{Atom, Not, And, Ax, Ex, Au, Eu, Eg, Ag}
 use Rattle.job.proofs.Successors.{over-all, over-some}
-use Rattle.ctl.specs.Truth.{Predicate, HasEdge, Walk, Until, meaning, truthUpTo, Holds}
+use Rattle.ctl.specs.Truth.{Predicate, HasEdge, Walk, Until, Throughout, OnWalks, meaning, truthUpTo, Holds}
 use Rattle.ctl.specs.Labelling.{labelled, labelling, sat}
 use Rattle.ctl.proofs.Total.{State, Total}
-use Rattle.ctl.proofs.Untils.{OnWalks, Decides, walks-reached}
-
--- a Bool that decides A decides its opposite
-not-decides : (A : Type 0) (x : Bool) → A ↔ (x ≡ true) → (A → ⊥) ↔ (not x ≡ true)
-not-decides A x d = (
-  (λ h. split x (λ t. absurd (h (d .1 t))) (not-is-true x)),
-  (λ e h. clash x (d .0 h) (not-true x e)),
-)
+use Rattle.ctl.proofs.Walks.{on-walks-map}
+use Rattle.ctl.proofs.Untils.{Decides, not-decides, walks-reached, throughout-outside}
 
 -- A line whose operands are renamed says the same, where what the operands say is the same: kind by kind.
 module _ (M : Structure) (A B A′ B′ : Predicate) (a : (s : ℕ) → A s → A′ s) (b : (s : ℕ) → B s → B′ s) where
@@ -38,11 +31,21 @@ abbrev pub Along : (ℕ → ℕ) → ℕ → ℕ → (ℕ → Predicate) → (�
 Along ρ k j P Q = (a : ℕ) → a < k → ρ a < j → (s : ℕ) → P a s ↔ Q (ρ a) s
 
 module _ (M : Structure) (ρ : ℕ → ℕ) (k j : ℕ) (P Q : ℕ → Predicate) (same : Along ρ k j P Q) where
-  on-walks :
-      (a b : ℕ) → a < k → b < k → ρ a < j → ρ b < j → (s : ℕ) (w : Walk M s) → Until M (P a) (P b) s w ↔ Until M (Q (ρ a)) (Q (ρ b)) s w
-  on-walks a b l r l′ r′ s w = (
-    until-map M (P a) (P b) (Q (ρ a)) (Q (ρ b)) (λ t. same a l l′ t .0) (λ t. same b r r′ t .0) s w,
-    until-map M (Q (ρ a)) (Q (ρ b)) (P a) (P b) (λ t. same a l l′ t .1) (λ t. same b r r′ t .1) s w,
+  until-renamed :
+      (q : Quantifier) (a b : ℕ) → a < k → b < k → ρ a < j → ρ b < j → (s : ℕ)
+      → OnWalks M q s (Until M (P a) (P b) s) ↔ OnWalks M q s (Until M (Q (ρ a)) (Q (ρ b)) s)
+  until-renamed q a b l r l′ r′ s = (
+    on-walks-map M s _ _ q (until-map M (P a) (P b) (Q (ρ a)) (Q (ρ b)) (λ t. same a l l′ t .0) (λ t. same b r r′ t .0) s),
+    on-walks-map M s _ _ q (until-map M (Q (ρ a)) (Q (ρ b)) (P a) (P b) (λ t. same a l l′ t .1) (λ t. same b r r′ t .1) s),
+  )
+
+  throughout-renamed :
+      (q : Quantifier) (a : ℕ) → a < k → ρ a < j → (s : ℕ)
+      → OnWalks M q s (Throughout M (P a) s) ↔ OnWalks M q s (Throughout M (Q (ρ a)) s)
+  unfolding Throughout
+  throughout-renamed q a l l′ s = (
+    on-walks-map M s _ _ q (λ w h i. same a l l′ (w .at i) .0 (h i)),
+    on-walks-map M s _ _ q (λ w h i. same a l l′ (w .at i) .1 (h i)),
   )
 
   pub meaning-renamed :
@@ -56,20 +59,16 @@ module _ (M : Structure) (ρ : ℕ → ℕ) (k j : ℕ) (P Q : ℕ → Predicate
   )
   meaning-renamed (Ax a) o p s = (λ h t e. same a o p t .0 (h t e), λ h t e. same a o p t .1 (h t e))
   meaning-renamed (Ex a) o p s = (λ (t, e, x). (t, e, same a o p t .0 x), λ (t, e, x). (t, e, same a o p t .1 x))
-  meaning-renamed (Au a b) (q, o, v) (r, p, v′) s = (
-    (λ h w. on-walks a b o q p r s w .0 (h w)),
-    (λ h w. on-walks a b o q p r s w .1 (h w)),
-  )
-  meaning-renamed (Eu a b) (q, o, v) (r, p, v′) s = (
-    (λ (w, u). (w, on-walks a b o q p r s w .0 u)),
-    (λ (w, u). (w, on-walks a b o q p r s w .1 u)),
-  )
+  meaning-renamed (Au a b) (q, o, v) (r, p, v′) s = until-renamed forAll a b o q p r s
+  meaning-renamed (Eu a b) (q, o, v) (r, p, v′) s = until-renamed exists a b o q p r s
+  meaning-renamed (Eg a) o p s = throughout-renamed exists a (o .0) (p .0) s
+  meaning-renamed (Ag a) o p s = throughout-renamed forAll a (o .0) (p .0) s
 
 module _ (M : Structure) (total : Total M) where
   -- Where Bools decide what the operands say, the label decides what the subformula says.
   module _ (holds : ℕ → Predicate) (sat : ℕ → ℕ → Bool) (decides : (a : ℕ) → Decides M (holds a) (sat a)) where
     meaning-label : (g : Subformula) → Decides M (meaning M holds g) (labelled M sat (ruleOf g))
-    unfolding meaning labelled HasEdge OnWalks
+    unfolding meaning labelled HasEdge dual
     meaning-label (Atom j) s l = (λ h. h, λ h. h)
     meaning-label (Not a) s l = not-decides (holds a s) (sat a s) (decides a s l)
     meaning-label (And a b) s l = (
@@ -86,6 +85,8 @@ module _ (M : Structure) (total : Total M) where
     )
     meaning-label (Au a b) s l = walks-reached M total (sat b) (sat a) (holds a) (holds b) (decides a) (decides b) forAll s l
     meaning-label (Eu a b) s l = walks-reached M total (sat b) (sat a) (holds a) (holds b) (decides a) (decides b) exists s l
+    meaning-label (Eg a) s l = throughout-outside M total (sat a) (holds a) (decides a) forAll s l
+    meaning-label (Ag a) s l = throughout-outside M total (sat a) (holds a) (decides a) exists s l
 
   -- Both have the same fuel, so this goes through every subformula.
   within-labelling : (f : List Subformula) (n k : ℕ) → Decides M (truthUpTo M f n k) (labelling M f n k)

@@ -1,27 +1,31 @@
 -- The states that are reached are those from which truth by walks sees an until: on every walk, or on some walk. Both quantifiers
--- go the same way, and that each state has an edge out is used only to continue a walk. Assumes nothing.
+-- go the same way, and that each state has an edge out is used only to continue a walk. What holds throughout is the opposite of an
+-- until. Assumes nothing.
 use Prim.Native.Nat.{ℕ, zero, suc, _<_}
 use mathlib.Core.Path.{_≡_, refl}
-use mathlib.Core.Bool.{Bool, true}
+use mathlib.Core.Bool.{Bool, true, false, not}
 use mathlib.Core.Logic.{_↔_}
 use native.Mathlib.Omega.{arith}
-use Rattle.law.proofs.Bool.{split, clash}
-use Rattle.job.specs.Job.{Structure, Quantifier, forAll, exists, over}
+use borrow.Author.Tests.{not-true}
+use Rattle.law.proofs.Bool.{split, clash, not-is-true}
+use Rattle.job.specs.Job.{Structure, Quantifier, forAll, exists, dual, over}
 use Rattle.job.proofs.Successors.{over-all, over-some, over-misses}
-use Rattle.ctl.specs.Truth.{Predicate, HasEdge, Walk, Until}
+use Rattle.ctl.specs.Truth.{Predicate, HasEdge, Walk, Until, Throughout, OnWalks}
 use Rattle.ctl.specs.Labelling.{reached}
 use Rattle.ctl.proofs.Total.{State, Total}
-use Rattle.ctl.proofs.Walks.{walk-tail, walk-before, walk-state, walk-by, walk-on, until-here, until-later}
+use Rattle.ctl.proofs.Walks.{walk-tail, walk-before, walk-state, walk-by, walk-on, until-here, until-later, on-walks-map, walks-share}
 use Rattle.ctl.proofs.Reached.{reached-start, reached-grow, reached-ind}
-
--- On that many of the walks from a state, B comes, and A before it: document 01's A(a U b) and E(a U b).
-unfoldable pub OnWalks : Structure → Quantifier → Predicate → Predicate → Predicate
-OnWalks M forAll A B s = (w : Walk M s) → Until M A B s w
-OnWalks M exists A B s = (w : Walk M s) × Until M A B s w
 
 -- A Bool says of each state whether A holds there.
 abbrev pub Decides : Structure → Predicate → (ℕ → Bool) → Type 0
 Decides M A p = (s : ℕ) → State M s → A s ↔ (p s ≡ true)
+
+-- a Bool that decides A decides its opposite
+pub not-decides : (A : Type 0) (x : Bool) → A ↔ (x ≡ true) → (A → ⊥) ↔ (not x ≡ true)
+not-decides A x d = (
+  (λ h. split x (λ t. absurd (h (d .1 t))) (not-is-true x)),
+  (λ e h. clash x (d .0 h) (not-true x e)),
+)
 
 module _
     (M : Structure) (total : Total M)
@@ -49,14 +53,22 @@ module _
         let w = walk-before M s t step v in
         (w, until-later M A B s t w v (λ i. refl) (a s l .1 g) u))
 
+    reached-walks : (q : Quantifier) (s : ℕ) → reached M q start grow s ≡ true → OnWalks M q s (Until M A B s)
+    unfolding OnWalks
+    reached-walks forAll = all-walks
+    reached-walks exists = some-walk
+
     -- From the walks to the set. An edge leads back if a state that may grow is in the set as soon as the next one is, and a walk of such
     -- edges is followed backwards from the place. For some walk every edge leads back; for all walks, one edge out of each state does.
     abbrev Back : Quantifier → ℕ → ℕ → Type 0
     Back q s t = grow s ≡ true → reached M q start grow t ≡ true → reached M q start grow s ≡ true
 
+    abbrev LeadsBack : (q : Quantifier) (s : ℕ) → Walk M s → Type 0
+    LeadsBack q s w = (i : ℕ) → Back q (w .at i) (w .at (suc i))
+
     walk-back :
         (q : Quantifier) (p s : ℕ) (w : Walk M s)
-        → ((i : ℕ) → Back q (w .at i) (w .at (suc i)))
+        → LeadsBack q s w
         → B (w .at p)
         → ((i : ℕ) → i < p → A (w .at i))
         → reached M q start grow (w .at zero) ≡ true
@@ -67,11 +79,7 @@ module _
         (a (w .at zero) (walk-state M total s w zero) .0 (earlier zero (omega arith)))
         (walk-back q p (w .at 1) (walk-tail M s w) (λ i. leads (suc i)) here (λ i h. earlier (suc i) (omega arith)))
 
-    until-reached :
-        (q : Quantifier) (s : ℕ) (w : Walk M s)
-        → ((i : ℕ) → Back q (w .at i) (w .at (suc i)))
-        → Until M A B s w
-        → reached M q start grow s ≡ true
+    until-reached : (q : Quantifier) (s : ℕ) (w : Walk M s) → LeadsBack q s w → Until M A B s w → reached M q start grow s ≡ true
     until-reached q s w leads u = rw (w .starts) at (walk-back q (u .place) s w leads (u .reached) (u .before))
 
     some-back : (s t : ℕ) → HasEdge M s t → Back exists s t
@@ -87,14 +95,69 @@ module _
         (λ all. let (t, e) = total .onward s l in (t, e, λ g h. reached-grow M forAll start grow s l g all))
         (λ miss. let (t, e, f) = over-misses M s set miss in (t, e, λ g h. clash (set t) h f))
 
+    -- the walks that lead back: enough of them to share one with those on which an until holds
+    back-walks : (q : Quantifier) (s : ℕ) → State M s → OnWalks M (dual q) s (LeadsBack q s)
+    unfolding OnWalks dual
+    back-walks forAll s l = walk-by M total (Back forAll) all-back s l
+    back-walks exists s l = λ w i. some-back (w .at i) (w .at (suc i)) (w .steps i)
+
     -- the two directions together
-    pub walks-reached : (q : Quantifier) (s : ℕ) → State M s → OnWalks M q A B s ↔ (reached M q start grow s ≡ true)
-    unfolding OnWalks
-    walks-reached forAll s l = (
-      (λ until. let (w, leads) = walk-by M total (Back forAll) all-back s l in until-reached forAll s w leads (until w)),
-      all-walks s,
+    pub walks-reached : (q : Quantifier) (s : ℕ) → State M s → OnWalks M q s (Until M A B s) ↔ (reached M q start grow s ≡ true)
+    walks-reached q s l = (
+      (λ until.
+          let (w, u, leads) = walks-share M s (Until M A B s) (LeadsBack q s) q until (back-walks q s l) in until-reached q s w leads u),
+      reached-walks q s,
     )
-    walks-reached exists s l = (
-      (λ (w, until). until-reached exists s w (λ i. some-back (w .at i) (w .at (suc i)) (w .steps i)) until),
-      some-walk s,
-    )
+
+-- A holds throughout on some walk, or on all, where it is not so that on all walks, or on some, a state comes at which A fails.
+module _ (M : Structure) (total : Total M) (p : ℕ → Bool) (A : Predicate) (a : Decides M A p) where
+  abbrev Fails : Predicate
+  Fails s = A s → ⊥
+
+  abbrev fails : ℕ → Bool
+  fails s = not (p s)
+
+  abbrev Anywhere : Predicate
+  Anywhere s = Unit {0}
+
+  abbrev anywhere : ℕ → Bool
+  anywhere s = true
+
+  anywhere-decides : Decides M Anywhere anywhere
+  anywhere-decides s l = (λ u. refl, λ e. tt)
+
+  fails-decides : Decides M Fails fails
+  fails-decides s l = not-decides (A s) (p s) (a s l)
+
+  -- a walk that leads back to a state outside the set meets no state at which A fails
+  back-throughout :
+      (q : Quantifier) (s : ℕ) → reached M q fails anywhere s ≡ false → (w : Walk M s)
+      → LeadsBack M total fails anywhere Anywhere Fails anywhere-decides fails-decides q s w
+      → Throughout M A s w
+  unfolding Throughout
+  back-throughout q s outside w leads i =
+      let t = w .at i in
+      let l = walk-state M total s w i in
+      split (p t) (a t l .1)
+      (λ no.
+      clash (reached M q fails anywhere s)
+      (until-reached M total fails anywhere Anywhere Fails anywhere-decides fails-decides q s w leads
+      (record { place = i; reached = fails-decides t l .1 (not-is-true (p t) no); before = λ j h. tt }))
+      outside)
+
+  pub throughout-outside :
+      (q : Quantifier) (s : ℕ) → State M s → OnWalks M (dual q) s (Throughout M A s) ↔ (not (reached M q fails anywhere s) ≡ true)
+  unfolding Throughout
+  throughout-outside q s l = (
+    (λ throughout.
+        split (reached M q fails anywhere s)
+        (λ t.
+        let until = reached-walks M total fails anywhere Anywhere Fails anywhere-decides fails-decides q s t in
+        let (w, u, h) = walks-share M s (Until M Anywhere Fails s) (Throughout M A s) q until throughout in
+        absurd (u .reached (h (u .place))))
+        (not-is-true (reached M q fails anywhere s))),
+    (λ e.
+        let outside = not-true (reached M q fails anywhere s) e in
+        on-walks-map M s _ (Throughout M A s) (dual q) (back-throughout q s outside)
+        (back-walks M total fails anywhere Anywhere Fails anywhere-decides fails-decides q s l)),
+  )

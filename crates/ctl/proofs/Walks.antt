@@ -1,10 +1,10 @@
 -- Walks made by hand, and until on them: a walk that starts a place later, one that starts a place earlier, and one that follows a
--- rule for ever. Assumes nothing.
+-- rule for ever; and what holds on all walks or on some. Assumes nothing.
 use Prim.Native.Nat.{ℕ, zero, suc, _<_}
 use mathlib.Core.Path.{_≡_, refl, subst}
 use native.Mathlib.Nat.{not-suc-le-zero, le-of-suc-le-suc}
-use Rattle.job.specs.Job.{Structure}
-use Rattle.ctl.specs.Truth.{Predicate, HasEdge, Walk, Until}
+use Rattle.job.specs.Job.{Structure, Quantifier, forAll, exists, dual}
+use Rattle.ctl.specs.Truth.{Predicate, HasEdge, Walk, Until, OnWalks}
 use Rattle.ctl.proofs.Total.{State, Total}
 
 -- A walk without its first state, and one with a state before it.
@@ -21,6 +21,18 @@ walk-before M s t e w = record { at = before s (w .at); starts = refl; steps = s
     steps : (i : ℕ) → HasEdge M (before s (w .at) i) (w .at i)
     steps zero = rw (w .starts) e
     steps (suc i) = w .steps i
+
+-- What holds on that many walks may be replaced walk by walk; and what holds on all walks and what holds on some share a walk.
+module _ (M : Structure) (s : ℕ) (P Q : Walk M s → Type 0) where
+  pub on-walks-map : (q : Quantifier) → ((w : Walk M s) → P w → Q w) → OnWalks M q s P → OnWalks M q s Q
+  unfolding OnWalks
+  on-walks-map forAll f h = λ w. f w (h w)
+  on-walks-map exists f (w, h) = (w, f w h)
+
+  pub walks-share : (q : Quantifier) → OnWalks M q s P → OnWalks M (dual q) s Q → (w : Walk M s) × P w × Q w
+  unfolding OnWalks dual
+  walks-share forAll h (w, g) = (w, h w, g)
+  walks-share exists (w, h) g = (w, h, g w)
 
 -- An until holds at once where B does, and one place later where A does and the walk goes on as one on which it holds.
 module _ (M : Structure) (A B : Predicate) where

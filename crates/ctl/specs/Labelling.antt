@@ -1,7 +1,7 @@
 -- The labelling that computes CTL truth: each subformula's states from its operands' states by its rule, the sets of a rule by a least
 -- fixed point. That it is truth by walks is a theorem; nothing that a reader must believe is here. Assumes nothing.
 use Prim.Native.Nat.{ℕ, zero, suc}
-use mathlib.Core.Bool.{Bool, false, not, cond, _&&_, _||_}
+use mathlib.Core.Bool.{Bool, true, false, not, cond, _&&_, _||_}
 use mathlib.Core.List.{List}
 use lib.ListN.{length}
 use lib.Dec.{eqb}
@@ -9,6 +9,8 @@ use Rattle.law.specs.Fixpoint.{Rule as Operator, member, least}
 use Rattle.job.specs.Job.{Structure, Quantifier, over, atom, subformula}
 use Rattle.job.specs.Rule.{ruleOf, quantifier}
 use Rattle.job.specs.declared.subformula.Subformula.{Subformula}
+use Rattle.job.specs.declared.rule.Condition.{Condition}
+use Rattle.job.specs.declared.rule.Condition.the-variants.{Always, Holds, Fails}
 use Rattle.job.specs.declared.rule.Rule.{Rule}
 use Rattle.job.specs.declared.rule.Rule.the-variants.{Atom, Not, And, Next, Sets}
 
@@ -24,13 +26,19 @@ reached M q start grow s = member (least (reaches M q start grow) (length (M .la
 abbrev pub valued : ℕ → Bool → Bool
 valued v inside = cond (eqb v 1) inside (not inside)
 
+-- A state meets a condition, given the states of the operands.
+abbrev pub meets : (ℕ → ℕ → Bool) → Condition → ℕ → Bool
+meets sat Always s = true
+meets sat (Holds a) s = sat a s
+meets sat (Fails a) s = not (sat a s)
+
 -- The states of a subformula by its rule, given those of its operands.
 unfoldable pub labelled : Structure → (ℕ → ℕ → Bool) → Rule → ℕ → Bool
 labelled M sat (Atom j) s = atom M j s
 labelled M sat (Not a) s = not (sat a s)
 labelled M sat (And a b) s = sat a s && sat b s
 labelled M sat (Next all a) s = over M (quantifier all) s (sat a)
-labelled M sat (Sets all start grow v) s = valued v (reached M (quantifier all) (sat start) (sat grow) s)
+labelled M sat (Sets all start grow v) s = valued v (reached M (quantifier all) (meets sat start) (meets sat grow) s)
 
 unfoldable pub labelling : Structure → List Subformula → ℕ → ℕ → ℕ → Bool
 labelling M f zero k s = false

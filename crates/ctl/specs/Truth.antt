@@ -1,12 +1,12 @@
--- Document 01, "CTL truth", after Clarke, Emerson and Sistla (1986): what a subformula means at a state of a structure, over
--- walks. Nothing here computes; that a labelling computes it is a theorem. Assumes nothing.
+-- Document 01, "CTL truth", after Clarke, Emerson and Sistla (1986), and document 02 (iii) for EG and AG: what a subformula means at a
+-- state of a structure, over walks. Nothing here computes; that a labelling computes it is a theorem. Assumes nothing.
 use Prim.Native.Nat.{ℕ, zero, suc, _<_}
 use mathlib.Core.Path.{_≡_}
 use mathlib.Core.Bool.{true}
 use mathlib.Core.List.{List}
-use Rattle.job.specs.Job.{Structure, atom, edge, subformula}
+use Rattle.job.specs.Job.{Structure, Quantifier, forAll, exists, atom, edge, subformula}
 use Rattle.job.specs.declared.subformula.Subformula.{Subformula}
-use Rattle.job.specs.declared.subformula.Subformula.the-variants.{Atom, Not, And, Ax, Ex, Au, Eu}
+use Rattle.job.specs.declared.subformula.Subformula.the-variants.{Atom, Not, And, Ax, Ex, Au, Eu, Eg, Ag}
 
 -- What may hold at a state.
 abbrev pub Predicate : Type 1
@@ -28,6 +28,15 @@ pub record Until (M : Structure) (A : Predicate) (B : Predicate) (s : ℕ) (w : 
   pub reached : B (w .at place)
   pub before : (i : ℕ) → i < place → A (w .at i)
 
+-- "a holds everywhere": at every place.
+unfoldable pub Throughout : (M : Structure) → Predicate → (s : ℕ) → Walk M s → Type 0
+Throughout M A s w = (i : ℕ) → A (w .at i)
+
+-- "on every walk" from s, "on some walk"
+unfoldable pub OnWalks : (M : Structure) → Quantifier → (s : ℕ) → (Walk M s → Type 0) → Type 0
+OnWalks M forAll s P = (w : Walk M s) → P w
+OnWalks M exists s P = (w : Walk M s) × P w
+
 -- What a subformula says of a state, given what its operands say.
 unfoldable pub meaning : Structure → (ℕ → Predicate) → Subformula → Predicate
 meaning M holds (Atom j) s = atom M j s ≡ true
@@ -35,8 +44,10 @@ meaning M holds (Not a) s = holds a s → ⊥
 meaning M holds (And a b) s = holds a s × holds b s
 meaning M holds (Ax a) s = (t : ℕ) → HasEdge M s t → holds a t
 meaning M holds (Ex a) s = (t : ℕ) × HasEdge M s t × holds a t
-meaning M holds (Au a b) s = (w : Walk M s) → Until M (holds a) (holds b) s w
-meaning M holds (Eu a b) s = (w : Walk M s) × Until M (holds a) (holds b) s w
+meaning M holds (Au a b) s = OnWalks M forAll s (Until M (holds a) (holds b) s)
+meaning M holds (Eu a b) s = OnWalks M exists s (Until M (holds a) (holds b) s)
+meaning M holds (Eg a) s = OnWalks M exists s (Throughout M (holds a) s)
+meaning M holds (Ag a) s = OnWalks M forAll s (Throughout M (holds a) s)
 
 -- Operands are smaller numbers, so n levels of operands below a subformula are enough for the n-th.
 unfoldable pub truthUpTo : Structure → List Subformula → ℕ → ℕ → Predicate

@@ -13,7 +13,7 @@ use Rattle.job.specs.Formula.{atomic, unary, binary, parsed, fields, isF
 use Rattle.job.specs.Rule.{ruleOf, InRange, Valued}
 use Rattle.job.specs.Written.{Operands}
 use Rattle.job.specs.declared.subformula.Subformula.{Subformula}
-use Rattle.job.specs.declared.subformula.Subformula.the-variants.{Atom, Not, And, Ax, Ex, Au, Eu}
+use Rattle.job.specs.declared.subformula.Subformula.the-variants.{Atom, Not, And, Ax, Ex, Au, Eu, Eg, Ag}
 use Rattle.job.specs.declared.subformula.Parsed.{Parsed}
 use Rattle.job.specs.declared.subformula.Parsed.the-variants.{Formula, Malformed}
 use Rattle.text.specs.Decimal.{Short}
@@ -22,7 +22,7 @@ use Rattle.text.specs.Decimal.{Short}
 abbrev pub Stands : ℕ → ℕ → ℕ → ℕ → Subformula → Type 0
 Stands k kind a b f = (kind ∷ a ∷ b ∷ [] ≡ fields f) × Operands k f
 
--- Forward: whatever rung of the seven tests gives f, the numbers are f's.
+-- Forward: whatever rung of the nine tests gives f, the numbers are f's.
 no-formula {ℓ} : {A : Type ℓ} (f : Subformula) → Malformed ≡ Formula f → A
 no-formula f e = let stop : _≡_ {A = ℕ} 0 1 = cc in absurd (omega arith)
 
@@ -30,7 +30,7 @@ formula-if : (c : Bool) (g f : Subformula) → cond c (Formula g) Malformed ≡ 
 formula-if true g f e = (refl, cc)
 formula-if false g f e = no-formula f e
 
--- one kind of the seven: it is this one, or the test goes on
+-- one kind of the nine: it is this one, or the test goes on
 rung : {P : Type 0} (kind n : ℕ) (here next : Parsed) (f : Subformula) → cond (eqb kind n) here next ≡ Formula f
     → (kind ≡ n → here ≡ Formula f → P) → (next ≡ Formula f → P) → P
 rung kind n here next f e is other =
@@ -65,10 +65,15 @@ module _ (k kind a b : ℕ) (f : Subformula) where
       rung kind 5 _ _ f e (one-stands 5 (Ex a) (ltb a k) refl (ltb-true a k)) λ e.
       rung kind 6 _ _ f e (two-stands 6 (Au a b) refl until) λ e.
       rung kind 7 _ _ f e (two-stands 7 (Eu a b) refl until) λ e.
+      rung kind 8 _ _ f e (one-stands 8 (Eg a) (ltb a k) refl throughout) λ e.
+      rung kind 9 _ _ f e (one-stands 9 (Ag a) (ltb a k) refl throughout) λ e.
       no-formula f e
     where
       until : (a < k) × (b < k) → (b < k) × (a < k) × (1 ≤ 1)
       until (l, r) = (r, l, omega arith)
+
+      throughout : ltb a k ≡ true → (a < k) × Unit {0} × (0 ≤ 1)
+      throughout e = (ltb-true a k e, tt, omega arith)
 
 -- Back: the numbers of f pass its rung.
 pub fields-length : (f : Subformula) → length (fields f) ≡ 3
@@ -80,6 +85,8 @@ fields-length (Ax a) = refl
 fields-length (Ex a) = refl
 fields-length (Au a b) = refl
 fields-length (Eu a b) = refl
+fields-length (Eg a) = refl
+fields-length (Ag a) = refl
 
 -- each with at most five digits
 pub fields-short : (k : ℕ) (f : Subformula) → k < 100000 → Operands k f → Short (fields f)
@@ -91,6 +98,8 @@ fields-short k (Ax a) l o = omega arith
 fields-short k (Ex a) l o = omega arith
 fields-short k (Au a b) l o = omega arith
 fields-short k (Eu a b) l o = omega arith
+fields-short k (Eg a) l o = omega arith
+fields-short k (Ag a) l o = omega arith
 
 -- and each below every bound that the atoms and the subformulas before it are below
 pub fields-below :
@@ -107,6 +116,8 @@ fields-below k b (Ax a) w l o = (omega arith, omega arith, omega arith)
 fields-below k b (Ex a) w l o = (omega arith, omega arith, omega arith)
 fields-below k b (Au c d) w l o = (omega arith, omega arith, omega arith)
 fields-below k b (Eu c d) w l o = (omega arith, omega arith, omega arith)
+fields-below k b (Eg a) w l o = (omega arith, omega arith, omega arith)
+fields-below k b (Ag a) w l o = (omega arith, omega arith, omega arith)
 
 fields-parsed : (k : ℕ) (f : Subformula) → Operands k f
     → parsed k (getD (fields f) 0 0) (getD (fields f) 1 0) (getD (fields f) 2 0) ≡ Formula f
@@ -118,6 +129,8 @@ fields-parsed k (Ax a) o = simp (lt-ltb a k o)
 fields-parsed k (Ex a) o = simp (lt-ltb a k o)
 fields-parsed k (Au a b) o = simp (lt-ltb a k (o .1), lt-ltb b k (o .0))
 fields-parsed k (Eu a b) o = simp (lt-ltb a k (o .1), lt-ltb b k (o .0))
+fields-parsed k (Eg a) o = simp (lt-ltb a k (o .0))
+fields-parsed k (Ag a) o = simp (lt-ltb a k (o .0))
 
 pub stands-parsed : (k kind a b : ℕ) (f : Subformula) → Stands k kind a b f → parsed k kind a b ≡ Formula f
 stands-parsed k kind a b f (e, o) =
@@ -133,6 +146,8 @@ rule-valued (Ax a) = tt
 rule-valued (Ex a) = tt
 rule-valued (Au a b) = omega arith
 rule-valued (Eu a b) = omega arith
+rule-valued (Eg a) = omega arith
+rule-valued (Ag a) = omega arith
 
 -- A line that is not malformed has its formula.
 pub formula-is : (p : Parsed) → isFormula p ≡ true → p ≡ Formula (formula p)

@@ -7,19 +7,28 @@ use lib.ListN.{length, getD}
 use lib.Dec.{ltb}
 use borrow.Author.Tests.{ltb-true, lt-ltb}
 use Rattle.law.specs.Lists.{every}
-use Rattle.law.proofs.Lists.{every-elim}
-use Rattle.job.specs.Rule.{operands, IsSets, InRange, closedValue}
+use Rattle.law.proofs.Lists.{every-elim, every-append}
+use Rattle.job.specs.Rule.{asks, operands, IsSets, AsksSmaller, InRange, closedValue}
+use Rattle.job.specs.declared.rule.Condition.{Condition}
+use Rattle.job.specs.declared.rule.Condition.the-variants.{Always, Holds, Fails}
 use Rattle.job.specs.declared.rule.Rule.{Rule}
 use Rattle.job.specs.declared.rule.Rule.the-variants.{Atom, Not, And, Next, Sets}
 
 -- Every operand of a rule in range is a smaller subformula.
+asks-smaller : (k : ℕ) (c : Condition) → AsksSmaller k c → every (λ a. ltb a k) (asks c) ≡ true
+unfolding every
+asks-smaller k Always o = refl
+asks-smaller k (Holds a) o = simp (lt-ltb a k o)
+asks-smaller k (Fails a) o = simp (lt-ltb a k o)
+
 operands-smaller : (k : ℕ) (r : Rule) → InRange k r → every (λ a. ltb a k) (operands r) ≡ true
 unfolding every InRange
 operands-smaller k (Atom j) o = refl
 operands-smaller k (Not a) o = simp (lt-ltb a k o)
 operands-smaller k (And a b) o = simp (lt-ltb a k (o .0), lt-ltb b k (o .1))
 operands-smaller k (Next all a) o = simp (lt-ltb a k o)
-operands-smaller k (Sets all start grow v) o = simp (lt-ltb start k (o .0), lt-ltb grow k (o .1))
+operands-smaller k (Sets all start grow v) o =
+    every-append (λ a. ltb a k) (asks start) (asks grow) (asks-smaller k start (o .0)) (asks-smaller k grow (o .1))
 
 pub operand-smaller : (k : ℕ) (r : Rule) → InRange k r → (i : ℕ) → i < length (operands r) → getD (operands r) i 0 < k
 operand-smaller k r o i l =
@@ -34,15 +43,15 @@ by-sets (Next all a) sets other = other (λ i. let e = i .is in let z : _≡_ {A
 by-sets (Sets all start grow v) sets other = sets (record { all = all; start = start; grow = grow; value = v; is = refl })
 
 -- What sets name is in range.
-pub sets-range : (k : ℕ) (r : Rule) (sets : IsSets r) → InRange k r → (sets .start < k) × (sets .grow < k) × (sets .value ≤ 1)
+pub sets-range : (k : ℕ) (r : Rule) (sets : IsSets r) → InRange k r → AsksSmaller k (sets .start) × AsksSmaller k (sets .grow) × (sets .value ≤ 1)
 unfolding InRange
 sets-range k r sets o = rw (sets .is) at o
 
 -- Closing fills 1 where the smallest set gives 0, and 0 where it does not.
-pub closed-one : (r : Rule) (all : Bool) (start grow v : ℕ) → r ≡ Sets all start grow v → v ≡ 0 → 1 ≡ closedValue r
+pub closed-one : (r : Rule) (all : Bool) (start grow : Condition) (v : ℕ) → r ≡ Sets all start grow v → v ≡ 0 → 1 ≡ closedValue r
 closed-one r all start grow v e z = rw e (omega arith)
 
-pub closed-zero : (r : Rule) (all : Bool) (start grow v : ℕ) → r ≡ Sets all start grow v → (v ≡ 0 → ⊥) → 0 ≡ closedValue r
+pub closed-zero : (r : Rule) (all : Bool) (start grow : Condition) (v : ℕ) → r ≡ Sets all start grow v → (v ≡ 0 → ⊥) → 0 ≡ closedValue r
 closed-zero r all start grow v e n = rw e (omega arith)
 
 pub closed-bound : (r : Rule) → closedValue r ≤ 1

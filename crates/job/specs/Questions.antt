@@ -84,7 +84,7 @@ edgeLines t = ofLines 6 (edgeOk t) (edges t) (2 + states t)
 unfoldable pub edgesOut : Text → Question
 edgesOut t = ofLines 7 (hasEdgeOut t) (states t) 2
 
--- "Is each kind 1 to 7, with a and b as above? No: 8."
+-- "Is each kind 1 to 7, with a and b as above? No: 8." Document 02 (iii): "Question 8 admits 1 to 9".
 unfoldable pub formulaLines : Text → Question
 formulaLines t = ofLines 8 (formulaOk t) (subformulas t) (2 + states t + edges t)
 

@@ -3,6 +3,13 @@ ghost use mathlib.Core.Path.{_≡_};
 ghost use Rattle.job.specs.Rule.{ruleOf, temporal, closedValue};
 use crate::subformula::Subformula;
 
+// What is asked of a state: nothing, or that an operand is true there, or that it is false.
+pub enum Condition {
+    Always,
+    Holds(usize),
+    Fails(usize),
+}
+
 pub enum Rule {
     // The atom's number: true where the label has it.
     Atom(usize),
@@ -12,9 +19,9 @@ pub enum Rule {
     And(usize, usize),
     // True where the operand is, at all successors or at some.
     Next(bool, usize),
-    // By the smallest set of states: over all successors or some, the operand at which a state starts in it, the operand that lets it
-    // grow, and the value that the set gives.
-    Sets(bool, usize, usize, u8),
+    // By the smallest set of states: over all successors or some, where a state starts in it, where it may grow, and the value that the
+    // set gives.
+    Sets(bool, Condition, Condition, u8),
 }
 
 // The table.
@@ -27,8 +34,10 @@ pub fn rule_of(f: Subformula) -> Rule
         Subformula::And(a, b) => Rule::And(a, b),
         Subformula::Ax(a) => Rule::Next(true, a),
         Subformula::Ex(a) => Rule::Next(false, a),
-        Subformula::Au(a, b) => Rule::Sets(true, b, a, 1),
-        Subformula::Eu(a, b) => Rule::Sets(false, b, a, 1),
+        Subformula::Au(a, b) => Rule::Sets(true, Condition::Holds(b), Condition::Holds(a), 1),
+        Subformula::Eu(a, b) => Rule::Sets(false, Condition::Holds(b), Condition::Holds(a), 1),
+        Subformula::Eg(a) => Rule::Sets(true, Condition::Fails(a), Condition::Always, 0),
+        Subformula::Ag(a) => Rule::Sets(false, Condition::Fails(a), Condition::Always, 0),
     }
 }
 

@@ -11,6 +11,8 @@ pub enum Subformula {
     Ex(usize),
     Au(usize, usize),
     Eu(usize, usize),
+    Eg(usize),
+    Ag(usize),
 }
 
 // A subformula line, read.
@@ -69,6 +71,8 @@ pub fn parse(k: usize, kind: usize, a: usize, b: usize) -> Parsed
         5 => one_operand(k, a, b, Subformula::Ex(a)),
         6 => two_operands(k, a, b, Subformula::Au(a, b)),
         7 => two_operands(k, a, b, Subformula::Eu(a, b)),
+        8 => one_operand(k, a, b, Subformula::Eg(a)),
+        9 => one_operand(k, a, b, Subformula::Ag(a)),
         _ => Parsed::Malformed,
     }
 }

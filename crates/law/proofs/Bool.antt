@@ -77,6 +77,10 @@ pub or-mono : (a b c : Bool) → (b ≡ true → c ≡ true) → (a || b) ≡ tr
 or-mono true b c h e = refl
 or-mono false b c h e = h e
 
+pub or-assoc : (a b c : Bool) → (a || (b || c)) ≡ ((a || b) || c)
+or-assoc true b c = refl
+or-assoc false b c = refl
+
 pub or-true : (b : Bool) → (b || true) ≡ true
 or-true true = refl
 or-true false = refl

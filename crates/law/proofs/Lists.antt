@@ -3,14 +3,14 @@
 use Prim.Native.Nat.{ℕ, zero, suc, _+_, _<_}
 use mathlib.Core.Path.{_≡_, refl, sym, _∙_, ap, ap₂}
 use mathlib.Core.Bool.{Bool, true, false, true≢false, _&&_, _||_}
-use mathlib.Core.List.{List, [], _∷_}
+use mathlib.Core.List.{List, [], _∷_, _++_}
 use mathlib.Core.Logic.{⊎-elim}
 use native.Mathlib.Nat.{not-suc-le-zero, le-of-suc-le-suc, add-zero, zero-add, add-suc, suc-add}
 use native.Mathlib.Omega.{arith}
 use lib.ListN.{length, getD, take, drop}
 use lib.Seq.{ext-getD, slice, take-nil}
 use Rattle.law.specs.Lists.{from, tab, every, some}
-use Rattle.law.proofs.Bool.{and-intro, and-left, and-right, or-left, or-right, or-cases, or-none}
+use Rattle.law.proofs.Bool.{and-intro, and-left, and-right, or-left, or-right, or-cases, or-none, or-assoc}
 
 -- n elements from m on, as a part of the list that ends at m + n
 pub take-drop {ℓ} : {A : Type ℓ} (n m : ℕ) (l : List A) → take n (drop m l) ≡ slice m (m + n) l
@@ -82,6 +82,18 @@ module _ {A : Type 0} (p : A → Bool) where
   unfolding some
   some-none [] d h = refl
   some-none (x ∷ l) d h = or-none (p x) (some p l) (h 0 (omega arith)) (some-none l d (λ i g. h (suc i) (omega arith)))
+
+  -- two lists, one behind the other
+  pub every-append : (l m : List A) → every p l ≡ true → every p m ≡ true → every p (l ++ m) ≡ true
+  unfolding every
+  every-append [] m e f = f
+  every-append (x ∷ l) m e f =
+      and-intro (p x) (every p (l ++ m)) (and-left (p x) (every p l) e) (every-append l m (and-right (p x) (every p l) e) f)
+
+  pub some-append : (l m : List A) → some p (l ++ m) ≡ (some p l || some p m)
+  unfolding some
+  some-append [] m = refl
+  some-append (x ∷ l) m = ap (λ b. p x || b) (some-append l m) ∙ or-assoc (p x) (some p l) (some p m)
 
 -- Tests that agree on a list's elements.
 module _ {A : Type 0} (p q : A → Bool) where

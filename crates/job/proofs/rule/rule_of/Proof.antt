@@ -26,7 +26,13 @@ returns-6 c = sym (ap ruleOf (c .before .f6 .given .1))
 returns-7 : tie.Need-returns-7
 returns-7 c = sym (ap ruleOf (c .before .f7 .given .1))
 
+returns-8 : tie.Need-returns-8
+returns-8 c = sym (ap ruleOf (c .before .f8 .given .1))
+
+returns-9 : tie.Need-returns-9
+returns-9 c = sym (ap ruleOf (c .before .f9 .given .1))
+
 pub rule-of-spec : {M : Type 1} → statement M
 rule-of-spec =
     let first = tie.spec (λ c. search needs) (λ c. search needs) (λ c. search needs) (λ c. search needs) (λ c. search needs) (λ c. search needs) in
-    tie.close (first (λ c. search needs) returns returns-2 returns-3 returns-4 returns-5 returns-6 returns-7)
+    tie.close (first (λ c. search needs) (λ c. search needs) (λ c. search needs) returns returns-2 returns-3 returns-4 returns-5 returns-6 returns-7 returns-8 returns-9)

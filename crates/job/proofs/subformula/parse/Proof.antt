@@ -41,20 +41,30 @@ returns-7 c = c .two-operands3 .ensures ∙ by-kind _ _ _ (c .before .match .key
 
 returns-8 : tie.Need-returns-8
 unfolding parsed
-returns-8 c =
+returns-8 c = c .one-operand4 .ensures ∙ by-kind _ _ _ (c .before .match .keys8)
+
+returns-9 : tie.Need-returns-9
+unfolding parsed
+returns-9 c = c .one-operand5 .ensures ∙ by-kind _ _ _ (c .before .match .keys9)
+
+returns-10 : tie.Need-returns-10
+unfolding parsed
+returns-10 c =
     let r = c .match .rest in
     simp (
-      ne-eqb _ 1 (r .0 .0 .0 .0 .0 .0 .1),
-      ne-eqb _ 2 (r .0 .0 .0 .0 .0 .1),
-      ne-eqb _ 3 (r .0 .0 .0 .0 .1),
-      ne-eqb _ 4 (r .0 .0 .0 .1),
-      ne-eqb _ 5 (r .0 .0 .1),
-      ne-eqb _ 6 (r .0 .1),
-      ne-eqb _ 7 (r .1),
+      ne-eqb _ 1 (r .0 .0 .0 .0 .0 .0 .0 .0 .1),
+      ne-eqb _ 2 (r .0 .0 .0 .0 .0 .0 .0 .1),
+      ne-eqb _ 3 (r .0 .0 .0 .0 .0 .0 .1),
+      ne-eqb _ 4 (r .0 .0 .0 .0 .0 .1),
+      ne-eqb _ 5 (r .0 .0 .0 .0 .1),
+      ne-eqb _ 6 (r .0 .0 .0 .1),
+      ne-eqb _ 7 (r .0 .0 .1),
+      ne-eqb _ 8 (r .0 .1),
+      ne-eqb _ 9 (r .1),
     )
 
 pub parse-spec : {M : Type 1} → statement M
 parse-spec =
     let first = tie.spec (λ c κs. search needs) (λ c κs. search needs) (λ c κs. search needs) (λ c κs. search needs) (λ c κs. search needs) in
-    let second = first (λ c κs. search needs) (λ c κs. search needs) returns returns-2 returns-3 returns-4 returns-5 returns-6 returns-7 in
-    tie.close (second returns-8)
+    let second = first (λ c κs. search needs) (λ c κs. search needs) (λ c κs. search needs) (λ c κs. search needs) returns returns-2 returns-3 returns-4 in
+    tie.close (second returns-5 returns-6 returns-7 returns-8 returns-9 returns-10)
