@@ -6,22 +6,25 @@ use mathlib.Core.Bool.{Bool, true, cond}
 use native.Mathlib.Omega.{arith}
 use lib.Dec.{eqb}
 use borrow.Author.Tests.{eqb-true}
-use Rattle.job.specs.Job.{Job, subformulaCount}
-use Rattle.job.specs.Rule.{ruleAt, temporal, closedValue, quantifier, IsSets}
+use Rattle.job.specs.Job.{Job, size, subformulaCount}
+use Rattle.job.specs.Rule.{ruleAt, temporal, closedValue, quantifier, IsSets, AsksSmaller}
 use Rattle.job.specs.Written.{IsJob}
+use Rattle.job.specs.declared.rule.Condition.{Condition}
 use Rattle.job.proofs.RuleLaws.{sets-range}
-use Rattle.ctl.specs.Labelling.{labelled, reached, valued}
+use Rattle.ctl.specs.Labelling.{labelled, reached, valued, meets}
 use Rattle.ctl.proofs.Labelling.{sat-label}
 use Rattle.cells.specs.Fragment.{inFragment}
 use Rattle.cells.specs.Table.{Table, cell, ownerCell}
+use Rattle.cells.specs.Step.{known}
 use Rattle.cells.specs.Close.{isTemporal, smallestOpen, closeTable}
 use Rattle.cells.proofs.Columns.{sets-column}
 use Rattle.cells.proofs.FragmentLaws.{fragment-bound, border-inside}
-use Rattle.cells.proofs.Tells.{Tells, cond-tells, empty-tells, tells-valued, valued-tells}
+use Rattle.cells.proofs.Tells.{Tells, cond-tells, empty-tells, known-tells, tells-valued, valued-tells}
 use Rattle.cells.proofs.Formed.{cell-low, closeTable-formed}
 use Rattle.cells.proofs.Sound.{truth, Sound, fill-tells}
 use Rattle.cells.proofs.Settled.{Settled}
 use Rattle.cells.proofs.Lower.{below-filled, open-sets}
+use Rattle.cells.proofs.Determined.{Filled, known-filled}
 use Rattle.cells.proofs.Exhausted.{empty-outside}
 
 module _
@@ -44,25 +47,32 @@ module _
         let a = sets .grow in
         let v = sets .value in
         let (lb, la, small) = sets-range k r sets (job .operands k some) in
-        let U : ℕ → Bool = reached (J .structure) q (truth J b) (truth J a) in
+        let U : ℕ → Bool = reached (J .structure) q (meets (truth J) b) (meets (truth J) a) in
         let truths : (s : ℕ) → truth J k s ≡ valued v (U s) =
         λ s.
         sat-label (J .structure) (J .formula) (job .operands) k some s
         ∙ ap (λ f. labelled (J .structure) (truth J) f s) (sets .is) in
         let at : ℕ → ℕ → ℕ → ℕ = λ n j s. cell J t n s j in
+        let tells : (n : ℕ) → n < J .nodes → (c : Condition) → AsksSmaller k c → (s : ℕ) → s < size J
+        → Tells 1 (known (at n) c s) (meets (truth J) c s) =
+        λ n node c o s l.
+        known-tells (at n) (truth J) k s (λ j. cell-low J t (sound .formed) n s j)
+        (λ j h. sound .tells n s j node l (omega arith)) c o in
+        let filled : (n s : ℕ) → n < J .nodes → inFragment J n s ≡ true → (c : Condition) → AsksSmaller k c → Filled (known (at n) c s) =
+        λ n s node i. known-filled (at n) k s (λ j h. below-filled J job t (sound .formed) still some j n s h node i) in
         let outside =
-        empty-outside J job q v small (λ n. at n k) (λ n. at n b) (λ n. at n a) (truth J b) (truth J a)
+        empty-outside J job q v small (λ n. at n k) (λ n. known (at n) b) (λ n. known (at n) a) (meets (truth J) b) (meets (truth J) a)
         (record {
           tells =
               λ n node.
               record {
                 owns = λ s l. valued-tells v (at n k s) (U s) small (rw (truths s) at (sound .tells n s k node l some));
-                starts = λ s l. sound .tells n s b node l (omega arith);
-                grows = λ s l. sound .tells n s a node l (omega arith);
+                starts = tells n node b lb;
+                grows = tells n node a la;
               };
           low = λ n s. cell-low J t (sound .formed) n s k;
-          started = λ n s. below-filled J job t (sound .formed) still some b n s lb;
-          grown = λ n s. below-filled J job t (sound .formed) still some a n s la;
+          started = λ n s node i. filled n s node i b lb;
+          grown = λ n s node i. filled n s node i a la;
           done =
               λ n s node i e.
               rw (sets-column J n (at n) k r sets) at (still .done n s k node (fragment-bound J job n s i) some i e);

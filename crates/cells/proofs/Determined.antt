@@ -3,6 +3,7 @@
 use Prim.Native.Nat.{ℕ, _<_, _≤_}
 use mathlib.Core.Path.{_≡_, refl}
 use mathlib.Core.Bool.{Bool, true, false, not, cond, true≢false}
+use native.Mathlib.Nat.{le-refl}
 use native.Mathlib.Omega.{arith}
 use lib.ListN.{getD}
 use lib.Dec.{eqb}
@@ -10,12 +11,14 @@ use borrow.Author.Tests.{eq-eqb, eqb-false, ne-eqb, not-true}
 use Rattle.law.proofs.Bool.{split}
 use Rattle.law.proofs.Lists.{tab-at}
 use Rattle.job.specs.Job.{Job, Quantifier, dual, over, size, atom, edge}
-use Rattle.job.specs.Rule.{temporal, quantifier, IsSets, InRange}
+use Rattle.job.specs.Rule.{temporal, quantifier, IsSets, AsksSmaller, InRange}
+use Rattle.job.specs.declared.rule.Condition.{Condition}
+use Rattle.job.specs.declared.rule.Condition.the-variants.{Always, Holds, Fails}
 use Rattle.job.specs.declared.rule.Rule.{Rule}
 use Rattle.job.specs.declared.rule.Rule.the-variants.{Atom, Not, And, Next, Sets}
 use Rattle.cells.specs.Fragment.{inner}
 use Rattle.cells.specs.Table.{isEmpty}
-use Rattle.cells.specs.Step.{opposite, both, next, column}
+use Rattle.cells.specs.Step.{opposite, both, next, known, column}
 use Rattle.job.proofs.Successors.{over-within, over-else}
 use Rattle.cells.proofs.Tells.{by-cell}
 
@@ -26,6 +29,13 @@ Filled c = c ≤ 1
 opposite-filled : (c : ℕ) → Filled c → Filled (opposite c)
 unfolding opposite isEmpty
 opposite-filled c l = simp (ne-eqb c 2 (λ e. omega arith)) (omega arith)
+
+pub known-filled :
+    (at : ℕ → ℕ → ℕ) (k s : ℕ) → ((j : ℕ) → j < k → Filled (at j s)) → (c : Condition) → AsksSmaller k c → Filled (known at c s)
+unfolding known
+known-filled at k s filled Always o = le-refl 1
+known-filled at k s filled (Holds a) o = filled a o
+known-filled at k s filled (Fails a) o = opposite-filled (at a s) (filled a o)
 
 both-filled : (c d : ℕ) → Filled c → Filled d → Filled (both c d)
 unfolding both

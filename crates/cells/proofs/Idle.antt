@@ -20,14 +20,14 @@ use Rattle.job.proofs.RuleLaws.{by-sets, sets-range}
 use Rattle.cells.specs.Fragment.{owns, inFragment}
 use Rattle.cells.specs.Table.{Table, nodeOf, stateOf, subformulaOf, cell, inside, filled}
 use Rattle.cells.specs.SetRule.{setRule}
-use Rattle.cells.specs.Step.{column, stepColumn, stepUpTo, stepTable}
+use Rattle.cells.specs.Step.{known, column, stepColumn, stepUpTo, stepTable}
 use Rattle.cells.proofs.FragmentLaws.{owns-bound}
 use Rattle.cells.proofs.Index.{cell-at}
 use Rattle.cells.proofs.Fill.{is-empty, not-empty, fill-idle, idle-new}
 use Rattle.cells.proofs.Kept.{stepUpTo-keeps}
 use Rattle.cells.proofs.Grown.{grown-both, stepUpTo-grown, stepTable-grown}
 use Rattle.cells.proofs.Counts.{filled-none}
-use Rattle.cells.proofs.Columns.{Below, bySets-same, sets-column, column-reads, below-operands, column-same}
+use Rattle.cells.proofs.Columns.{Below, bySets-same, sets-column, column-reads, known-below, below-operands, column-same}
 use Rattle.cells.proofs.Local.{columnOf, stepColumn-cell, stepColumn-other}
 use Rattle.cells.proofs.Repeat.{FilledIn, bySets-again}
 
@@ -127,10 +127,10 @@ module _
         let v = sets .value in
         rw (
           sets-column J n at′ k r sets,
-          bySets-same J n (at′ k) (at′ k) (setRule q (at b) (at a) v) (setRule q (at′ b) (at′ a) v) refl refl (λ u m. refl)
-              (λ u m. below b i u (inl m)) (λ u m. below a j u (inl m)),
+          bySets-same J n (at′ k) (at′ k) (setRule q (known at b) (known at a) v) (setRule q (known at′ b) (known at′ a) v) refl refl
+              (λ u m. refl) (known-below J n k at′ at below b i) (known-below J n k at′ at below a j),
         )
-        (bySets-again J n (at k) (at′ k) (setRule q (at b) (at a) v) small
+        (bySets-again J n (at k) (at′ k) (setRule q (known at b) (known at a) v) small
         (λ u m. rw (sets-column J n at k r sets) at (after u m)) s l h)
 
     -- by another rule: it does not read its own cells

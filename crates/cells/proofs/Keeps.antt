@@ -14,14 +14,17 @@ use Rattle.law.proofs.Bool.{split, clash, contrapose, and-left, and-right, and-
 use Rattle.law.proofs.Bounded.{by-equal}
 use Rattle.law.proofs.Lists.{tab-at}
 use Rattle.job.specs.Job.{Job, Quantifier, dual, over, size}
-use Rattle.job.specs.Rule.{InRange, quantifier}
+use Rattle.job.specs.Rule.{AsksSmaller, InRange, quantifier}
 use Rattle.job.specs.Written.{IsJob}
+use Rattle.job.specs.declared.rule.Condition.{Condition}
+use Rattle.job.specs.declared.rule.Condition.the-variants.{Always, Holds, Fails}
 use Rattle.job.specs.declared.rule.Rule.{Rule}
 use Rattle.job.specs.declared.rule.Rule.the-variants.{Atom, Not, And, Next, Sets}
+use Rattle.ctl.specs.Labelling.{meets}
 use Rattle.cells.specs.Fragment.{inner}
 use Rattle.cells.specs.Table.{isEmpty}
 use Rattle.cells.specs.SetRule.{SetRule, setRule, smallest, largest, bySets}
-use Rattle.cells.specs.Step.{opposite, both, next, column}
+use Rattle.cells.specs.Step.{opposite, both, next, known, column}
 use Rattle.cells.specs.Sets.{Joins, already, starts, grows, Stays, other, blocked, follows}
 use Rattle.cells.proofs.Sets.{smallest-is, largest-is, largest-apart}
 use Rattle.cells.proofs.Repeat.{bySets-at}
@@ -60,6 +63,16 @@ opposite-keeps c d low keeps =
     (λ e. rw (e, keeps 0 (omega arith) e) (λ v small h. h))
     (λ e. rw (e, keeps 1 (omega arith) e) (λ v small h. h))
     (λ e. rw e (empty-keeps (opposite d)))
+
+known-keeps :
+    (at at′ : ℕ → ℕ → ℕ) (k s : ℕ) → ((j : ℕ) → at j s ≤ 2) → ((j : ℕ) → j < k → Keeps (at j s) (at′ j s))
+    → (c : Condition)
+    → AsksSmaller k c
+    → Keeps (known at c s) (known at′ c s)
+unfolding known
+known-keeps at at′ k s low kept Always o = λ v small h. h
+known-keeps at at′ k s low kept (Holds a) o = kept a o
+known-keeps at at′ k s low kept (Fails a) o = opposite-keeps (at a s) (at′ a s) (low a) (kept a o)
 
 pub both-keeps : (c d x y : ℕ) → Keeps c x → Keeps d y → Keeps (both c d) (both x y)
 unfolding both
@@ -231,6 +244,8 @@ module _
         rw (tab-at (next J n q (at a)) (size J) s 2 l, tab-at (next J n q (at′ a)) (size J) s 2 l)
         (next-keeps J job n q (at a) (at′ a) (operand a o) s)
     column-keeps (Sets all b a v) o reads reads′ s l =
-        bySets-keeps J n (quantifier all) v (o .2) (T b) (T a) (at k) (at b) (at a) (at′ k) (at′ b) (at′ a)
+        let condition : (c : Condition) → AsksSmaller k c → (u : ℕ) → u < size J → Keeps (known at c u) (known at′ c u) =
+        λ c i u m. known-keeps at at′ k u (λ j. reads .low j u) (λ j h. operand j h u m) c i in
+        bySets-keeps J n (quantifier all) v (o .2) (meets T b) (meets T a) (at k) (known at b) (known at a) (at′ k) (known at′ b) (known at′ a)
         (reads-sets J T k at all b a v o reads) (reads-sets J T k at′ all b a v o reads′) (λ u m. reads′ .low k u)
-        (λ u. kept k u (le-refl (suc k))) (operand b (o .0)) (operand a (o .1)) s l
+        (λ u. kept k u (le-refl (suc k))) (condition b (o .0)) (condition a (o .1)) s l

@@ -16,6 +16,8 @@ use Rattle.law.proofs.Bounded.{by-order, by-equal, all-intro, all-elim}
 use Rattle.law.proofs.Lists.{tab-length, tab-at}
 use Rattle.job.specs.Job.{Job, Quantifier, dual, over, size, owner, atom, subformula}
 use Rattle.job.specs.Rule.{ruleAt, quantifier, closedValue, Valued}
+use Rattle.job.specs.declared.rule.Condition.{Condition}
+use Rattle.job.specs.declared.rule.Condition.the-variants.{Always, Holds, Fails}
 use Rattle.job.specs.declared.rule.Rule.{Rule}
 use Rattle.job.specs.declared.rule.Rule.the-variants.{Atom, Not, And, Next, Sets}
 use Rattle.job.proofs.Formula.{rule-valued}
@@ -23,7 +25,7 @@ use Rattle.job.proofs.RuleLaws.{closed-bound}
 use Rattle.cells.specs.Fragment.{inner, border}
 use Rattle.cells.specs.Table.{Table, index, nodeOf, stateOf, subformulaOf, cell, ownerCell, isEmpty, inside, cellsRight, freshTable, fill}
 use Rattle.cells.specs.SetRule.{SetRule, setRule, smallest, largest, bySets}
-use Rattle.cells.specs.Step.{opposite, both, next, column, stepColumn, stepTable}
+use Rattle.cells.specs.Step.{opposite, both, next, known, column, stepColumn, stepTable}
 use Rattle.cells.specs.Close.{isTemporal, acceptTable, copyTable, smallestOpen, closeTable}
 use Rattle.cells.specs.Finish.{round, finish}
 use Rattle.cells.proofs.Fill.{empty-is, is-empty, fill-length, fill-filled, fill-outside, fill-new}
@@ -118,6 +120,12 @@ opposite-small : (a : ℕ) → opposite a ≤ 2
 unfolding opposite
 opposite-small a = cond-small (isEmpty a) 2 (1 - a) (le-refl 2) (other-small a)
 
+pub known-small : (at : ℕ → ℕ → ℕ) (s : ℕ) → ((j : ℕ) → at j s ≤ 2) → (c : Condition) → known at c s ≤ 2
+unfolding known
+known-small at s low Always = one-small
+known-small at s low (Holds a) = low a
+known-small at s low (Fails a) = opposite-small (at a s)
+
 both-small : (a b : ℕ) → both a b ≤ 2
 unfolding both
 both-small a b =
@@ -151,7 +159,7 @@ column-small J n at k (Atom j) o =
 column-small J n at k (Not a) o = tab-small _ (λ s. opposite-small (at a s)) (size J)
 column-small J n at k (And a b) o = tab-small _ (λ s. both-small (at a s) (at b s)) (size J)
 column-small J n at k (Next all a) o = tab-small _ (next-small J n (quantifier all) (at a)) (size J)
-column-small J n at k (Sets all b a v) o = bySets-small J n (at k) (setRule (quantifier all) (at b) (at a) v) (omega arith)
+column-small J n at k (Sets all b a v) o = bySets-small J n (at k) (setRule (quantifier all) (known at b) (known at a) v) (omega arith)
 
 -- So each call keeps the table right, an accept of a value that passes question 15.
 module _ (J : Job) where

@@ -4,14 +4,15 @@ use mathlib.Core.Bool.{Bool, cond}
 use lib.ListN.{getD}
 use Rattle.law.proofs.Lists.{tab-at}
 use Rattle.job.specs.Job.{Job, size, atom}
-use Rattle.job.specs.Rule.{InRange, quantifier}
+use Rattle.job.specs.Rule.{AsksSmaller, InRange, quantifier}
 use Rattle.job.specs.Written.{IsJob}
+use Rattle.job.specs.declared.rule.Condition.{Condition}
 use Rattle.job.specs.declared.rule.Rule.{Rule}
 use Rattle.job.specs.declared.rule.Rule.the-variants.{Atom, Not, And, Next, Sets}
-use Rattle.ctl.specs.Labelling.{reached, labelled}
+use Rattle.ctl.specs.Labelling.{reached, meets, labelled}
 use Rattle.cells.specs.SetRule.{setRule, bySets}
-use Rattle.cells.specs.Step.{opposite, both, next, column}
-use Rattle.cells.proofs.Tells.{Tells, atom-tells, opposite-tells, both-tells, next-tells, tells-valued, valued-tells}
+use Rattle.cells.specs.Step.{opposite, both, next, known, column}
+use Rattle.cells.proofs.Tells.{Tells, atom-tells, opposite-tells, known-tells, both-tells, next-tells, tells-valued, valued-tells}
 use Rattle.cells.proofs.RightSets.{reachedBy, Telling, bySets-tells}
 
 -- The cells `at` of a node, by subformula and state, that the column of subformula k by rule r reads are right about the truths T of
@@ -23,16 +24,18 @@ pub record ReadsTruth (J : Job) (T : ℕ → ℕ → Bool) (k : ℕ) (r : Rule) 
 
 module _ (J : Job) (T : ℕ → ℕ → Bool) (k : ℕ) (at : ℕ → ℕ → ℕ) where
   pub reads-sets :
-      (all : Bool) (b a v : ℕ)
+      (all : Bool) (b a : Condition) (v : ℕ)
       → InRange k (Sets all b a v)
       → ReadsTruth J T k (Sets all b a v) at
-      → Telling J (at k) (setRule (quantifier all) (at b) (at a) v) (T b) (T a)
+      → Telling J (at k) (setRule (quantifier all) (known at b) (known at a) v) (meets T b) (meets T a)
   unfolding InRange labelled
   reads-sets all b a v (lb, la, small) reads =
+      let tells : (c : Condition) → AsksSmaller k c → (s : ℕ) → s < size J → Tells 1 (known at c s) (meets T c s) =
+      λ c o s l. known-tells at T k s (λ j. reads .low j s) (λ j h. reads .operands j s h l) c o in
       record {
-        owns = λ s l. valued-tells v (at k s) (reached (J .structure) (quantifier all) (T b) (T a) s) small (reads .own s l);
-        starts = λ s. reads .operands b s lb;
-        grows = λ s. reads .operands a s la;
+        owns = λ s l. valued-tells v (at k s) (reached (J .structure) (quantifier all) (meets T b) (meets T a) s) small (reads .own s l);
+        starts = tells b lb;
+        grows = tells a la;
       }
 
   module _ (job : IsJob J) (n : ℕ) where
@@ -56,6 +59,6 @@ module _ (J : Job) (T : ℕ → ℕ → Bool) (k : ℕ) (at : ℕ → ℕ → �
         rw (tab-at (next J n (quantifier all) (at a)) (size J) s 2 l)
         (next-tells J job n (quantifier all) (at a) (T a) (λ u. reads .operands a u o) s)
     column-tells (Sets all b a v) o reads s l =
-        let R = setRule (quantifier all) (at b) (at a) v in
-        tells-valued v (getD (bySets J n (at k) R) s 2) (reachedBy J R (T b) (T a) s) (o .2)
-        (bySets-tells J n (at k) R (T b) (T a) (reads-sets all b a v o reads) (o .2) s l)
+        let R = setRule (quantifier all) (known at b) (known at a) v in
+        tells-valued v (getD (bySets J n (at k) R) s 2) (reachedBy J R (meets T b) (meets T a) s) (o .2)
+        (bySets-tells J n (at k) R (meets T b) (meets T a) (reads-sets all b a v o reads) (o .2) s l)

@@ -1,6 +1,6 @@
 -- What a cell tells of a truth: `Tells v c b` says that the cell c, if filled, is right about b, where v is the value for
--- true. The values that a step has for atoms, not, and, and next are right where the cells that they read are. Assumes
--- nothing.
+-- true. The values that a step has for atoms, not, and, and next, and what it knows of a condition, are right where the
+-- cells that they read are. Assumes nothing.
 use Prim.Native.Nat.{ℕ, _-_, _≤_, _<_}
 use mathlib.Core.Path.{_≡_, refl}
 use mathlib.Core.Bool.{Bool, true, false, not, cond, _&&_, _||_}
@@ -11,11 +11,14 @@ use borrow.Author.Tests.{eqb-true, not-true, not-false}
 use Rattle.law.proofs.Bool.{split, clash, not-is-true, not-is-false, and-intro, and-left, and-right, and-no-left, and-no-right, or-cases}
 use Rattle.law.proofs.Bounded.{by-equal}
 use Rattle.job.specs.Job.{Job, Quantifier, dual, over, size}
+use Rattle.job.specs.Rule.{AsksSmaller}
 use Rattle.job.specs.Written.{IsJob}
-use Rattle.ctl.specs.Labelling.{valued}
+use Rattle.job.specs.declared.rule.Condition.{Condition}
+use Rattle.job.specs.declared.rule.Condition.the-variants.{Always, Holds, Fails}
+use Rattle.ctl.specs.Labelling.{valued, meets}
 use Rattle.cells.specs.Fragment.{inner}
 use Rattle.cells.specs.Table.{isEmpty}
-use Rattle.cells.specs.Step.{opposite, both, next}
+use Rattle.cells.specs.Step.{opposite, both, next, known}
 use Rattle.job.proofs.Successors.{over-within, over-share}
 use Rattle.cells.proofs.FragmentLaws.{edge-bound}
 
@@ -51,6 +54,16 @@ opposite-tells c b l right =
     (λ e. rw e (true-tells (not b) (not-is-true b (right .outside e))))
     (λ e. rw e (false-tells (not b) (not-is-false b (right .inside e))))
     (λ e. rw e (empty-tells (not b)))
+
+module _
+    (at : ℕ → ℕ → ℕ) (T : ℕ → ℕ → Bool) (k s : ℕ)
+    (low : (j : ℕ) → at j s ≤ 2) (right : (j : ℕ) → j < k → Tells 1 (at j s) (T j s))
+  where
+    pub known-tells : (c : Condition) → AsksSmaller k c → Tells 1 (known at c s) (meets T c s)
+    unfolding known
+    known-tells Always o = true-tells true refl
+    known-tells (Holds a) o = right a o
+    known-tells (Fails a) o = opposite-tells (at a s) (T a s) (low a) (right a o)
 
 pub both-tells : (c d : ℕ) (a b : Bool) → Tells 1 c a → Tells 1 d b → Tells 1 (both c d) (a && b)
 unfolding both

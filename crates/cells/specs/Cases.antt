@@ -122,12 +122,15 @@ cases =
 unfoldable pub zeros : Text → Table
 zeros x = replicate (tableLength (decode x)) 0
 
--- The case, with what the definitions compute for it.
-unfoldable pub computed : Case → Case
-computed c =
+-- The case, with what the definitions compute for it from a table.
+unfoldable pub computedFrom : Table → Case → Case
+computedFrom t c =
     record {
       job = c .job;
       calls = c .calls;
-      told = answers (bytes (c .job)) (zeros (bytes (c .job))) (c .calls);
-      cells = tableAfter (bytes (c .job)) (zeros (bytes (c .job))) (c .calls);
+      told = answers (bytes (c .job)) t (c .calls);
+      cells = tableAfter (bytes (c .job)) t (c .calls);
     }
+
+unfoldable pub computed : Case → Case
+computed c = computedFrom (zeros (bytes (c .job))) c

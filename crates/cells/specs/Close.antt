@@ -49,6 +49,7 @@ smallestOpen J t = first (open? J t) (subformulaCount J)
 unfoldable pub someOpen : Job → Table → Bool
 someOpen J t = ltb (smallestOpen J t) (subformulaCount J)
 
--- "makes every empty cell of k in every fragment 0": the value that its sets do not give, which is 0 for both untils
+-- "makes every empty cell of k in every fragment 0", document 02 (iii): "0 for kinds 6 and 7, 1 for kinds 8 and 9": the value that its
+-- smallest set does not give
 unfoldable pub closeTable : Job → Table → Table
 closeTable J t = let k = smallestOpen J t in fill J (λ m s j. cond (eqb j k) (closedValue (ruleAt J k)) 2) t

@@ -11,3 +11,4 @@ pub mod Calls
 pub mod Cases
 pub mod RuledOut
 pub mod LookWithoutNode
+pub mod AllAlong

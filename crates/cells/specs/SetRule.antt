@@ -1,6 +1,7 @@
--- Document 01, "Step of one node", the sets of the untils, as one rule: a quantifier over successors, where a set starts, where
--- it may grow, and the value that its cells take. `start` and `grow` give a cell's value for each state, 2 where it is not
--- known yet. For A(a U b): all successors, b, a, 1. For E(a U b): some, b, a, 1.
+-- Document 01, "Step of one node", the sets of the untils, and document 02 (iii), those of EG and AG, as one rule: a quantifier over
+-- successors, where the smallest set starts, where it may grow, and the value that its cells take. `start` and `grow` give for each
+-- state whether that is so, 2 where it is not known yet. For A(a U b): all successors, b, a, 1. For E(a U b): some, b, a, 1. For EG a:
+-- all, a false, everywhere, 0. For AG a: some, a false, everywhere, 0.
 -- "On every table the sets are taken under this restriction: the smallest set may hold no cell already filled with the other
 -- value, and the largest no cell of the smallest." "Temporal at a border state .. counts only by its own value."
 -- Assumes nothing.

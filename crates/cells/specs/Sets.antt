@@ -11,8 +11,9 @@ use Rattle.cells.specs.Fragment.{inner}
 use Rattle.cells.specs.SetRule.{SetRule}
 
 module _ (J : Job) (n : ℕ) (own : ℕ → ℕ) (R : SetRule) where
-  -- "the smallest set holding those already true, those with b true, and those with a true and all successors in the set": why
-  -- a state is in the set X. Border states join only by their own value.
+  -- "the smallest set holding those already true, those with b true, and those with a true and all successors in the set"; "the
+  -- smallest set already false, or with a false, or with all successors in the set": why a state is in the set X. Border states join only
+  -- by their own value.
   pub data Joins (X : ℕ → Bool) (s : ℕ) : Type 0 where
     already : own s ≡ R .value → Joins X s
     starts : own s ≡ 2 → inner J n s ≡ true → R .start s ≡ 1 → Joins X s
@@ -35,8 +36,8 @@ module _ (J : Job) (n : ℕ) (own : ℕ → ℕ) (R : SetRule) where
     pub within-each : (Y : ℕ → Bool) → ((s : ℕ) → s < size J → Joins Y s → Y s ≡ true) → (s : ℕ) → X s ≡ true → Y s ≡ true
 
 module _ (J : Job) (n : ℕ) (own : ℕ → ℕ) (R : SetRule) (L : List Bool) where
-  -- "the largest set of cells each already false, or with b false and either a false or some successor in the set", and "no cell
-  -- of the smallest", L: why a state is in the set X.
+  -- "the largest set of cells each already false, or with b false and either a false or some successor in the set"; "the largest set
+  -- already true, or with a true and some successor in the set"; and "no cell of the smallest", L: why a state is in the set X.
   pub data Stays (X : ℕ → Bool) (s : ℕ) : Type 0 where
     other : own s ≡ 1 - R .value → Stays X s
     blocked : own s ≡ 2 → member L s ≡ false → inner J n s ≡ true → R .start s ≡ 0 → R .grow s ≡ 0 → Stays X s

@@ -7,6 +7,8 @@ use lib.Dec.{eqb}
 use Rattle.law.specs.Lists.{tab}
 use Rattle.job.specs.Job.{Job, Quantifier, dual, over, size, subformulaCount, atom}
 use Rattle.job.specs.Rule.{ruleAt, quantifier}
+use Rattle.job.specs.declared.rule.Condition.{Condition}
+use Rattle.job.specs.declared.rule.Condition.the-variants.{Always, Holds, Fails}
 use Rattle.job.specs.declared.rule.Rule.{Rule}
 use Rattle.job.specs.declared.rule.Rule.the-variants.{Atom, Not, And, Next, Sets}
 use Rattle.cells.specs.Fragment.{inner}
@@ -29,13 +31,19 @@ next J n q a s =
     (cond (over (J .structure) q s (λ u. eqb (a u) 1)) 1 (cond (over (J .structure) (dual q) s (λ u. eqb (a u) 0)) 0 2))
     2
 
+-- Where a state meets a condition, by the node's cells: 1 where it does, 0 where it does not, 2 where that is not known yet.
+unfoldable pub known : (ℕ → ℕ → ℕ) → Condition → ℕ → ℕ
+known at Always s = 1
+known at (Holds a) s = at a s
+known at (Fails a) s = opposite (at a s)
+
 -- What the step of node n has for the cells of subformula k by its rule, by state, given the node's cells of a subformula by state.
 unfoldable pub column : Job → ℕ → (ℕ → ℕ → ℕ) → ℕ → Rule → List ℕ
 column J n at k (Atom j) = tab (λ s. cond (atom (J .structure) j s) 1 0) (size J)
 column J n at k (Not a) = tab (λ s. opposite (at a s)) (size J)
 column J n at k (And a b) = tab (λ s. both (at a s) (at b s)) (size J)
 column J n at k (Next all a) = tab (next J n (quantifier all) (at a)) (size J)
-column J n at k (Sets all start grow v) = bySets J n (at k) (setRule (quantifier all) (at start) (at grow) v)
+column J n at k (Sets all start grow v) = bySets J n (at k) (setRule (quantifier all) (known at start) (known at grow) v)
 
 -- The empty cells of node n and subformula k take their values.
 unfoldable pub stepColumn : Job → ℕ → ℕ → Table → Table

@@ -30,9 +30,26 @@ operands-smaller k (Next all a) o = simp (lt-ltb a k o)
 operands-smaller k (Sets all start grow v) o =
     every-append (λ a. ltb a k) (asks start) (asks grow) (asks-smaller k start (o .0)) (asks-smaller k grow (o .1))
 
+pub asked-smaller : (k : ℕ) (c : Condition) → AsksSmaller k c → (i : ℕ) → i < length (asks c) → getD (asks c) i 0 < k
+asked-smaller k c o i l = ltb-true (getD (asks c) i 0) k (every-elim (λ a. ltb a k) (asks c) 0 (asks-smaller k c o) i l)
+
 pub operand-smaller : (k : ℕ) (r : Rule) → InRange k r → (i : ℕ) → i < length (operands r) → getD (operands r) i 0 < k
 operand-smaller k r o i l =
     ltb-true (getD (operands r) i 0) k (every-elim (λ a. ltb a k) (operands r) 0 (operands-smaller k r o) i l)
+
+-- What is in range for a subformula is so for a later one.
+pub asks-up : (k n : ℕ) (c : Condition) → k < n → AsksSmaller k c → AsksSmaller n c
+asks-up k n Always l o = tt
+asks-up k n (Holds a) l o = omega arith
+asks-up k n (Fails a) l o = omega arith
+
+pub range-up : (k n : ℕ) (r : Rule) → k < n → InRange k r → InRange n r
+unfolding InRange
+range-up k n (Atom j) l o = o
+range-up k n (Not a) l o = omega arith
+range-up k n (And a b) l o = (omega arith, omega arith)
+range-up k n (Next all a) l o = omega arith
+range-up k n (Sets all start grow v) l o = (asks-up k n start l (o .0), asks-up k n grow l (o .1), o .2)
 
 -- It goes by sets, or it does not.
 pub by-sets {ℓ} : {A : Type ℓ} (r : Rule) → (IsSets r → A) → ((IsSets r → ⊥) → A) → A

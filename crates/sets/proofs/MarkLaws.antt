@@ -14,16 +14,20 @@ use Rattle.law.proofs.Bool.{split, and-intro, and-no-right, or-left, cond-true,
 use Rattle.law.proofs.Bounded.{by-order, by-equal}
 use Rattle.law.proofs.Least.{least-closed, least-same}
 use Rattle.job.specs.Job.{Job, Structure, Quantifier, over, size, subformulaCount}
-use Rattle.job.specs.Rule.{quantifier, InRange}
+use Rattle.job.specs.Rule.{quantifier, AsksSmaller, InRange}
 use Rattle.job.specs.Written.{IsJob}
+use Rattle.job.specs.declared.rule.Condition.{Condition}
+use Rattle.job.proofs.RuleLaws.{asks-up}
 use Rattle.cells.specs.Fragment.{inFragment, inner}
 use Rattle.cells.specs.Table.{Table, index, cell, isEmpty, inside}
+use Rattle.cells.specs.Step.{known}
 use Rattle.cells.proofs.Index.{index-lt, nodeOf-index, stateOf-index}
 use Rattle.cells.proofs.Right.{right-is}
 use Rattle.image.specs.Image.{jobOf, placeOf, rank, fragmentSize, fragmentState}
 use Rattle.image.proofs.Ranks.{state-below, state-inside, rank-state, rank-below, state-rank}
 use Rattle.image.proofs.Places.{place-inner}
 use Rattle.table.specs.Lent.{Lent, Ready, IsCell}
+use Rattle.table.specs.Column.{cellsOf}
 use Rattle.spread.specs.Spread.{spreadRule, Joinable, Spread}
 use Rattle.spread.proofs.Turn.{rule-mono}
 use Rattle.sets.specs.declared.sets.Growth.{Growth}
@@ -116,6 +120,10 @@ module _ (J : Job) (job : IsJob J) (n : ℕ) (f : ℕ → ℕ) (d : ℕ) where
               let stop : ⊥ = omega arith in absurd stop);
         }
 
+-- what is known of a condition, by its case
+pub known-case : (at : ℕ → ℕ → ℕ) (s : ℕ) {x : ℕ} {c d : Condition} → c ≡ d → x ≡ known at d s → x ≡ known at c s
+known-case at s e v = v ∙ ap (λ (f : Condition). known at f s) (sym e)
+
 -- A state's mark by the tests of the code.
 module _ (also v place own start grow : ℕ) where
   abbrev its : ℕ
@@ -188,24 +196,23 @@ module _ (m : List ℕ) (t : Table) (ready : Ready m t) (n k : ℕ) (g : Growth)
     pub own-cell : cell-in k
     own-cell = (ready .lent, record { node-in = here .0; state-in = l; subformula-in = here .1 })
 
-    pub start-cell : cell-in (g .start)
-    unfolding InRange
-    start-cell =
-        let below = here .1 in
-        let o = here .2 .0 in
-        (ready .lent, record { node-in = here .0; state-in = l; subformula-in = omega arith })
+    -- a condition of the rule asks for cells of the job
+    abbrev asked-in : Condition → Type 0
+    asked-in c = Lent m t × ((n < J .nodes) × (s < size J) × AsksSmaller (subformulaCount J) c)
 
-    pub grow-cell : cell-in (g .grow)
+    pub start-asked : asked-in (g .start)
     unfolding InRange
-    grow-cell =
-        let below = here .1 in
-        let o = here .2 .1 in
-        (ready .lent, record { node-in = here .0; state-in = l; subformula-in = omega arith })
+    start-asked = (ready .lent, (here .0, l, asks-up k (subformulaCount J) (g .start) (here .1) (here .2 .0)))
+
+    pub grow-asked : asked-in (g .grow)
+    unfolding InRange
+    grow-asked = (ready .lent, (here .0, l, asks-up k (subformulaCount J) (g .grow) (here .1) (here .2 .1)))
 
   -- a state's mark by the cells that were read
   pub mark-read :
-      (s : ℕ) {x p o b w : ℕ} → x ≡ mark also (g .value) p o b w → p ≡ placeOf J n s → o ≡ cell J t n s k → b ≡ cell J t n s (g .start)
-      → w ≡ cell J t n s (g .grow)
+      (s : ℕ) {x p o b w : ℕ} → x ≡ mark also (g .value) p o b w → p ≡ placeOf J n s → o ≡ cell J t n s k
+      → b ≡ known (cellsOf J t n) (g .start) s
+      → w ≡ known (cellsOf J t n) (g .grow) s
       → x ≡ markAt J t n k g also s
   mark-read s e a b c d = rw (sym a, sym b, sym c, sym d) e
 
@@ -229,8 +236,10 @@ module _ (m : List ℕ) (t : Table) (ready : Ready m t) (n k : ℕ) (g : Growth)
         let apart : also ≡ 1 → ⊥ = λ e. omega arith in
         joinable J (ready .lent .image .is-job) n (markAt J t n k g also) also marks done apart
         (λ s.
+        let b = known (cellsOf J t n) (g .start) s in
+        let w = known (cellsOf J t n) (g .grow) s in
         inner-joins also apart (eqb (cell J t n s k) (g .value)) (isEmpty (cell J t n s k)) (eqb (placeOf J n s) 2)
-        (eqb (cell J t n s (g .start)) 1 || eqb (cell J t n s (g .start)) also) (eqb (cell J t n s (g .grow)) 1 || eqb (cell J t n s (g .grow)) also))
+        (eqb b 1 || eqb b also) (eqb w 1 || eqb w also))
 
     pub marks-set : (after : List ℕ) → Spread (J .structure) (quantifier (g .all)) marks after → IsSet J t n k g also after
     unfolding size grows spreadRule

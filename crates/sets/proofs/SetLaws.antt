@@ -20,14 +20,15 @@ use Rattle.law.proofs.Lists.{tab-at}
 use Rattle.job.specs.Job.{Job, Structure, dual, over, size, subformulaCount}
 use Rattle.job.specs.Rule.{quantifier, InRange}
 use Rattle.job.specs.Written.{IsJob}
+use Rattle.job.specs.declared.rule.Condition.{Condition}
 use Rattle.job.proofs.Successors.{over-mono, over-dual}
 use Rattle.cells.specs.Fragment.{inner}
 use Rattle.cells.specs.Table.{Table, tableLength, index, cell, isEmpty}
 use Rattle.cells.specs.SetRule.{SetRule, setRule, joins, stays, smallest, largest, bySets}
-use Rattle.cells.specs.Step.{column}
+use Rattle.cells.specs.Step.{known, column}
 use Rattle.cells.proofs.Columns.{over-same}
 use Rattle.cells.proofs.Fill.{is-empty}
-use Rattle.cells.proofs.Right.{right-is}
+use Rattle.cells.proofs.Right.{right-is, known-small}
 use Rattle.image.specs.Image.{jobOf, fragmentSize, fragmentState}
 use Rattle.image.proofs.Ranks.{by-rank}
 use Rattle.image.proofs.Places.{place-inner}
@@ -92,7 +93,7 @@ leaves-by false true true G O = refl
 leaves-by false true false true O = not-not O
 leaves-by false true false false O = refl
 
--- a cell that is not false may be true
+-- what is not false may be true
 may-be : (x : ℕ) → x ≤ 2 → eqb x 0 ≡ not (eqb x 1 || eqb x 2)
 may-be x l =
     by-equal x 0 (λ e. rw e refl)
@@ -133,8 +134,14 @@ module _ (m : List ℕ) (t : Table) (ready : Ready m t) (n k : ℕ) (g : Growth)
   abbrev own : ℕ → ℕ
   own = cellsOf J t n k
 
+  abbrev starts : ℕ → ℕ
+  starts = known (cellsOf J t n) (g .start)
+
+  abbrev lets : ℕ → ℕ
+  lets = known (cellsOf J t n) (g .grow)
+
   abbrev R : SetRule
-  R = setRule (quantifier (g .all)) (cellsOf J t n (g .start)) (cellsOf J t n (g .grow)) (g .value)
+  R = setRule (quantifier (g .all)) starts lets (g .value)
 
   abbrev L : List Bool
   L = smallest J n own R
@@ -150,6 +157,9 @@ module _ (m : List ℕ) (t : Table) (ready : Ready m t) (n k : ℕ) (g : Growth)
   unfolding cell
   cell-low s j = right-is J t (ready .right) .small (index J n s j)
 
+  known-low : (s : ℕ) (c : Condition) → known (cellsOf J t n) c s ≤ 2
+  known-low s = known-small (cellsOf J t n) s (cell-low s)
+
   grows-mono : (also : ℕ) → Monotone (grows J t n k g also)
   unfolding grows
   grows-mono also X Y inside s =
@@ -161,11 +171,11 @@ module _ (m : List ℕ) (t : Table) (ready : Ready m t) (n k : ℕ) (g : Growth)
   joins-same : (X : ℕ → Bool) (s : ℕ) → s < size J → joins J n own R X s ≡ grows J t n k g 3 X s
   unfolding joins grows mark
   joins-same X s l =
-      let b = cell-low s (g .start) in
-      let w = cell-low s (g .grow) in
-      rw (place-inner J n s, ne-eqb (cell J t n s (g .start)) 3 (λ e. omega arith), ne-eqb (cell J t n s (g .grow)) 3 (λ e. omega arith))
-      (joins-by (eqb (cell J t n s k) (g .value)) (isEmpty (cell J t n s k)) (inner J n s) (eqb (cell J t n s (g .start)) 1)
-      (eqb (cell J t n s (g .grow)) 1) (over-by X s))
+      let b = known-low s (g .start) in
+      let w = known-low s (g .grow) in
+      rw (place-inner J n s, ne-eqb (starts s) 3 (λ e. omega arith), ne-eqb (lets s) 3 (λ e. omega arith))
+      (joins-by (eqb (cell J t n s k) (g .value)) (isEmpty (cell J t n s k)) (inner J n s) (eqb (starts s) 1)
+      (eqb (lets s) 1) (over-by X s))
 
   smallest-grows : L ≡ least (grows J t n k g 3) (size J)
   unfolding smallest
@@ -176,8 +186,8 @@ module _ (m : List ℕ) (t : Table) (ready : Ready m t) (n k : ℕ) (g : Growth)
   unfolding joins grows mark
   joins-out X s =
       rw (place-inner J n s)
-      (joins-more (eqb (cell J t n s k) (g .value)) (isEmpty (cell J t n s k)) (inner J n s) (eqb (cell J t n s (g .start)) 1)
-      (eqb (cell J t n s (g .start)) 2) (eqb (cell J t n s (g .grow)) 1) (eqb (cell J t n s (g .grow)) 2) (over-by X s))
+      (joins-more (eqb (cell J t n s k) (g .value)) (isEmpty (cell J t n s k)) (inner J n s) (eqb (starts s) 1)
+      (eqb (starts s) 2) (eqb (lets s) 1) (eqb (lets s) 2) (over-by X s))
 
   smallest-out : (s : ℕ) → member L s ≡ true → member (least (grows J t n k g 2) (size J)) s ≡ true
   unfolding smallest
@@ -208,16 +218,16 @@ module _ (m : List ℕ) (t : Table) (ready : Ready m t) (n k : ℕ) (g : Growth)
       rw (
         others-over X s,
         place-inner J n s,
-        may-be (cell J t n s (g .start)) (cell-low s (g .start)),
-        may-be (cell J t n s (g .grow)) (cell-low s (g .grow)),
+        may-be (starts s) (known-low s (g .start)),
+        may-be (lets s) (known-low s (g .grow)),
       )
       (cell-cases _ (cell J t n s k) (g .value) (cell-low s k) value-low
       (λ a e o. rw (a, e, o) refl)
       (λ a e o. rw (a, e, o) refl)
       (λ a e o.
       rw (a, e, o)
-      (leaves-by (member L s) (inner J n s) (eqb (cell J t n s (g .start)) 1 || eqb (cell J t n s (g .start)) 2)
-      (eqb (cell J t n s (g .grow)) 1 || eqb (cell J t n s (g .grow)) 2) (over-by X s))))
+      (leaves-by (member L s) (inner J n s) (eqb (starts s) 1 || eqb (starts s) 2)
+      (eqb (lets s) 1 || eqb (lets s) 2) (over-by X s))))
 
   largest-is : (s : ℕ) → s < size J → member (largest J n own R L) s ≡ not (member (least (grows J t n k g 2) (size J)) s)
   unfolding largest others

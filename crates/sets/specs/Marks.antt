@@ -14,7 +14,9 @@ use Rattle.job.specs.declared.rule.Rule.{Rule}
 use Rattle.job.specs.declared.rule.Rule.the-variants.{Sets}
 use Rattle.cells.specs.Fragment.{inFragment}
 use Rattle.cells.specs.Table.{Table, cell, isEmpty}
+use Rattle.cells.specs.Step.{known}
 use Rattle.image.specs.Image.{placeOf, rank, fragmentSize, fragmentState}
+use Rattle.table.specs.Column.{cellsOf}
 use Rattle.table.specs.Filling.{Values}
 use Rattle.sets.specs.declared.sets.Growth.{Growth}
 
@@ -22,8 +24,9 @@ use Rattle.sets.specs.declared.sets.Growth.{Growth}
 abbrev pub ruleBy : Growth → Rule
 ruleBy g = Sets (g .all) (g .start) (g .grow) (g .value)
 
--- A state's mark by its place and its cells: 2 where it starts in the set, 1 where it may join, else another. Cells that are `also` count as
--- true beside those that are: with 3 none do, which gives the smallest set; with 2 the empty ones, which gives what the largest leaves out.
+-- A state's mark by its place, its own cell and whether it starts and may grow: 2 where it starts in the set, 1 where it may join, else
+-- another. What is `also` counts as met beside what is 1: with 3 nothing does, which gives the smallest set; with 2 what is not known
+-- yet, which gives what the largest leaves out.
 unfoldable pub mark : ℕ → ℕ → ℕ → ℕ → ℕ → ℕ → ℕ
 mark also v place own start grow =
     cond (eqb own v) 2
@@ -34,7 +37,8 @@ mark also v place own start grow =
 -- The column of node n and subformula k, over the cells of the table t: the marks by state, and how a set grows by them.
 module _ (J : Job) (t : Table) (n k : ℕ) (g : Growth) (also : ℕ) where
   abbrev pub markAt : ℕ → ℕ
-  markAt s = mark also (g .value) (placeOf J n s) (cell J t n s k) (cell J t n s (g .start)) (cell J t n s (g .grow))
+  markAt s =
+      mark also (g .value) (placeOf J n s) (cell J t n s k) (known (cellsOf J t n) (g .start) s) (known (cellsOf J t n) (g .grow) s)
 
   unfoldable pub grows : fixpoint.Rule
   grows X s = eqb (markAt s) 2 || (eqb (markAt s) 1 && over (J .structure) (quantifier (g .all)) s X)

@@ -9,24 +9,26 @@ ghost use Rattle.table.specs.Lent.{Lent, Ready};
 ghost use Rattle.table.specs.Filling.{Leaves, part, ofColumn};
 ghost use Rattle.table.specs.Column.{stepBy};
 ghost use Rattle.sets.specs.Marks.{ruleBy, mark as markOf, IsSet, hasEmpty, setValue, setValues};
+use crate::condition::known;
 use image::image::Image;
 use image::image::fragment_size;
 use image::image::fragment_state;
 use image::image::place;
+use job::rule::Condition;
 use spread::spread::spread;
 use table::cell::cell;
 use table::cell::put;
 
-// How the smallest set of a rule grows: over all successors or some, the operand at which a state starts in it, the operand that lets it
-// grow, and the value that it gives.
+// How the smallest set of a rule grows: over all successors or some, where a state starts in it, where it may grow, and the value that
+// it gives.
 pub struct Growth {
     pub all: bool,
-    pub start: usize,
-    pub grow: usize,
+    pub start: Condition,
+    pub grow: Condition,
     pub value: u8,
 }
 
-// A state's mark: 2 where it starts in the set, 1 where it may join, else another. Cells that are `also` count as true beside those that are.
+// A state's mark: 2 where it starts in the set, 1 where it may join, else another. What is `also` counts as met beside what is 1.
 fn mark(also: u8, v: u8, place: u16, own: u8, start: u8, grow: u8) -> u8
     ensures { λ r. ⌜ r ≡ markOf also v place own start grow ⌝ }
 {
@@ -48,20 +50,22 @@ fn mark(also: u8, v: u8, place: u16, own: u8, start: u8, grow: u8) -> u8
     0
 }
 
-// The set that grows so, as the states with mark 2. With `also` 3 it is the smallest set; with 2, where a cell that is empty counts as true,
+// The set that grows so, as the states with mark 2. With `also` 3 it is the smallest set; with 2, where what is not known yet counts as met,
 // it is all that the largest set leaves out. A state outside the fragment is as one of which nothing is known.
 fn set_of(m: &Image, table: &[u8], n: usize, k: usize, g: Growth, also: u8) -> [u8; 256]
     requires { ⌜ Ready (now m) (now table) ⌝ }
     requires { ⌜ (n < jobOf (now m) .nodes) × (k < subformulaCount (jobOf (now m))) × InRange k (ruleBy g) × (2 ≤ also) ⌝ }
     ensures { λ r. ⌜ IsSet (jobOf (now (m .entry))) (now (table .entry)) n k g also r ⌝ }
 {
+    let start = g.start;
+    let grow = g.grow;
     let mut marks = [also; 256];
     for i in 0..fragment_size(m, n) {
         let s = fragment_state(m, n, i);
         let at = place(m, n, s);
         let own = cell(m, table, n, s, k);
-        let starts = cell(m, table, n, s, g.start);
-        let grows = cell(m, table, n, s, g.grow);
+        let starts = known(m, table, n, s, start);
+        let grows = known(m, table, n, s, grow);
         marks[s] = mark(also, g.value, at, own, starts, grows);
     }
     spread(m, n, g.all, &mut marks);

@@ -1,14 +1,16 @@
 -- One column of a node: which marks bear on it, and what becomes of it. Assumes nothing.
 use Prim.Native.Nat.{ℕ, _<_}
-use mathlib.Core.Path.{_≡_, refl, sym, _∙_, ap}
+use mathlib.Core.Path.{_≡_, refl, sym, _∙_, ap, ap₂}
 use mathlib.Core.Bool.{Bool, true, false, _||_}
-use mathlib.Core.List.{List, [], _∷_}
+use mathlib.Core.List.{List, [], _∷_, _++_}
 use native.Mathlib.Omega.{arith}
 use lib.ListN.{set}
 use Rattle.law.specs.Lists.{some}
 use Rattle.law.proofs.Bool.{or-left, or-false}
+use Rattle.law.proofs.Lists.{some-append}
 use Rattle.job.specs.Job.{Job, subformulaCount}
-use Rattle.job.specs.Rule.{ruleAt, operands}
+use Rattle.job.specs.Rule.{ruleAt, asks, operands}
+use Rattle.job.specs.declared.rule.Condition.{Condition}
 use Rattle.job.specs.declared.rule.Rule.{Rule}
 use Rattle.cells.specs.Table.{Table}
 use Rattle.cells.specs.Step.{stepColumn}
@@ -19,6 +21,15 @@ use Rattle.cells.proofs.Tracked.{mark-none, mark-set}
 use Rattle.image.specs.Image.{jobOf}
 use Rattle.table.specs.Filling.{Leaves}
 use Rattle.stepping.specs.Stale.{Resting, ColumnWorked}
+
+-- The columns that a condition asks for, by its case.
+module _ (stale : List ℕ) (n : ℕ) where
+  pub asks-case : {r : Bool} {c d : Condition} → c ≡ d → r ≡ some (isStale stale n) (asks d) → r ≡ some (isStale stale n) (asks c)
+  asks-case e v = v ∙ ap (λ (f : Condition). some (isStale stale n) (asks f)) (sym e)
+
+  pub asks-one : (a : ℕ) {r : Bool} → r ≡ isStale stale n a → r ≡ some (isStale stale n) (a ∷ [])
+  unfolding some
+  asks-one a one = one ∙ sym (or-false (isStale stale n a))
 
 -- By the column's own mark, and by those of its operands.
 module _ (stale : List ℕ) (n k : ℕ) (rule : Rule) where
@@ -35,18 +46,17 @@ module _ (stale : List ℕ) (n k : ℕ) (rule : Rule) where
   bears-none e is = bears-by [] e is
 
   pub bears-one : (a : ℕ) (r : Bool) → isStale stale n k ≡ false → operands rule ≡ a ∷ [] → r ≡ isStale stale n a → r ≡ bears stale n k rule
-  unfolding some
-  bears-one a r e is one = one ∙ sym (or-false (isStale stale n a)) ∙ bears-by (a ∷ []) e is
+  bears-one a r e is one = asks-one stale n a one ∙ bears-by (a ∷ []) e is
 
-  pub bears-two :
-      (a b : ℕ) (r : Bool)
+  pub bears-both :
+      (l m : List ℕ) {x y : Bool}
       → isStale stale n k ≡ false
-      → operands rule ≡ a ∷ b ∷ []
-      → r ≡ (isStale stale n a || isStale stale n b)
-      → r ≡ bears stale n k rule
-  unfolding some
-  bears-two a b r e is two =
-      two ∙ ap (λ x. isStale stale n a || x) (sym (or-false (isStale stale n b))) ∙ bears-by (a ∷ b ∷ []) e is
+      → operands rule ≡ l ++ m
+      → x ≡ some (isStale stale n) l
+      → y ≡ some (isStale stale n) m
+      → (x || y) ≡ bears stale n k rule
+  bears-both l m e is left right =
+      ap₂ _||_ left right ∙ sym (some-append (isStale stale n) l m) ∙ bears-by (l ++ m) e is
 
 -- One column.
 module _ {m : List ℕ} {t : Table} {n : ℕ} {stale news : List ℕ} (w : Resting m t n stale news) (k : ℕ) (l : k < subformulaCount (jobOf m)) where

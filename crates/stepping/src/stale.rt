@@ -3,7 +3,8 @@ ghost use mathlib.Core.Path.{_≡_};
 ghost use Prim.Native.Nat.{_<_};
 ghost use lib.ListN.{length};
 ghost use Rattle.job.specs.Job.{subformulaCount};
-ghost use Rattle.job.specs.Rule.{InRange};
+ghost use Rattle.law.specs.Lists.{some};
+ghost use Rattle.job.specs.Rule.{asks, AsksSmaller, InRange};
 ghost use Rattle.cells.specs.Rest.{columnByte, isStale, bears as bearsOn, Rested, BytesAre};
 ghost use Rattle.image.specs.Image.{jobOf};
 ghost use Rattle.table.specs.Lent.{Ready};
@@ -12,6 +13,7 @@ use crate::column::step_column;
 use image::image::Image;
 use image::image::subformula;
 use image::image::subformulas;
+use job::rule::Condition;
 use job::rule::Rule;
 use job::rule::rule_of;
 
@@ -20,6 +22,18 @@ fn is_stale(stale: &[u8; 256], n: usize, k: usize) -> bool
     ensures { λ r. ⌜ r ≡ isStale (now (stale .entry)) n k ⌝ }
 {
     stale[n * 32 + k] != 0
+}
+
+// Whether a column that a condition asks for is stale.
+fn asks_stale(stale: &[u8; 256], n: usize, c: Condition) -> bool
+    requires { ⌜ (n < 8) × AsksSmaller 32 c ⌝ }
+    ensures { λ r. ⌜ r ≡ some (isStale (now (stale .entry)) n) (asks c) ⌝ }
+{
+    match c {
+        Condition::Always => false,
+        Condition::Holds(a) => is_stale(stale, n, a),
+        Condition::Fails(a) => is_stale(stale, n, a),
+    }
 }
 
 // Whether a column that column k of node n reads is stale: its own, or one of an operand of its rule.
@@ -35,7 +49,7 @@ fn bears(stale: &[u8; 256], n: usize, k: usize, rule: Rule) -> bool
         Rule::Not(a) => is_stale(stale, n, a),
         Rule::And(a, b) => is_stale(stale, n, a) | is_stale(stale, n, b),
         Rule::Next(_, a) => is_stale(stale, n, a),
-        Rule::Sets(_, start, grow, _) => is_stale(stale, n, start) | is_stale(stale, n, grow),
+        Rule::Sets(_, start, grow, _) => asks_stale(stale, n, start) | asks_stale(stale, n, grow),
     }
 }
 

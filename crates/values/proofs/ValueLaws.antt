@@ -202,15 +202,6 @@ column-value J n k at (Next all a) other s l = tab-at _ (size J) s 2 l
 column-value J n k at (Sets all start grow v) other s l =
     absurd (other (record { all = all; start = start; grow = grow; value = v; is = refl }))
 
--- What is in range for subformula k is so for the whole formula.
-pub range-up : (k n : ℕ) (r : Rule) → k < n → InRange k r → InRange n r
-unfolding InRange
-range-up k n (Atom j) l o = o
-range-up k n (Not a) l o = omega arith
-range-up k n (And a b) l o = (omega arith, omega arith)
-range-up k n (Next all a) l o = omega arith
-range-up k n (Sets all start grow v) l o = (omega arith, omega arith, o .2)
-
 -- a value by the rule's case
 pub by-case :
     (J : Job) (n : ℕ) (at : ℕ → ℕ → ℕ) (s x : ℕ) (r q : Rule) → r ≡ q → x ≡ valueAt J n at q s → x ≡ valueAt J n at r s

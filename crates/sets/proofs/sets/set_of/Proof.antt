@@ -3,17 +3,17 @@ use Prim.Native.Nat.{_-_, _<_, _≤_}
 use mathlib.Core.Path.{_≡_}
 use Rattle.image.specs.Image.{jobOf, fragmentSize}
 use Rattle.sets.specs.Marks.{markAt, Marks}
-use Rattle.sets.proofs.MarkLaws.{marks-start, marks-more, marks-end, own-cell, start-cell, grow-cell, mark-read, marks-join, marks-set}
+use Rattle.sets.proofs.MarkLaws.{marks-start, marks-more, marks-end, own-cell, start-asked, grow-asked, mark-read, marks-join, marks-set}
 use borrow.Author.Needs.{needs}
 use native.Mathlib.Omega.{arith}
 use Rattle.sets.proofs.sets.set_of.Statement.{statement}
 use Rattle.sets.proofs.sets.set_of.Tie as tie
 
 abbrev Inv-loop : tie.InvT-loop
-Inv-loop m table n k g also marks₀ i₀ i-end marks i = (i ≤ i-end) × Marks (jobOf m) n (markAt (jobOf m) table n k g also) also i marks
+Inv-loop m table n k g also start grow marks₀ i₀ i-end marks i = (i ≤ i-end) × Marks (jobOf m) n (markAt (jobOf m) table n k g also) also i marks
 
 abbrev μ-loop : tie.MeasureT-loop
-μ-loop m table n k g also marks₀ i₀ i-end marks i = i-end - i
+μ-loop m table n k g also start grow marks₀ i₀ i-end marks i = i-end - i
 
 fragment-size-requires : tie.Need-fragment-size-requires Inv-loop μ-loop
 fragment-size-requires c κs = let pre = c .before .pre in (pre .0 .lent .image, pre .1 .0)
@@ -45,17 +45,17 @@ cell-requires c κs =
     let s = start-of p in
     own-cell _ _ (s .pre .0) _ _ (s .args .g) (s .args .also) (s .pre .1) _ (p .fragment-state .ensures .1)
 
-cell-requires-2 : tie.Need-cell-requires-2 Inv-loop μ-loop
-cell-requires-2 c κs =
+known-requires : tie.Need-known-requires Inv-loop μ-loop
+known-requires c κs =
     let p = c .before .before in
     let s = start-of p in
-    start-cell _ _ (s .pre .0) _ _ (s .args .g) (s .args .also) (s .pre .1) _ (p .fragment-state .ensures .1)
+    start-asked _ _ (s .pre .0) _ _ (s .args .g) (s .args .also) (s .pre .1) _ (p .fragment-state .ensures .1)
 
-cell-requires-3 : tie.Need-cell-requires-3 Inv-loop μ-loop
-cell-requires-3 c κs =
+known-requires-2 : tie.Need-known-requires-2 Inv-loop μ-loop
+known-requires-2 c κs =
     let p = c .before .before .before in
     let s = start-of p in
-    grow-cell _ _ (s .pre .0) _ _ (s .args .g) (s .args .also) (s .pre .1) _ (p .fragment-state .ensures .1)
+    grow-asked _ _ (s .pre .0) _ _ (s .args .g) (s .args .also) (s .pre .1) _ (p .fragment-state .ensures .1)
 
 array-write-marks : tie.Need-array-write-marks Inv-loop μ-loop
 array-write-marks c = c .before .before .before .before .before .fragment-state .ensures .2
@@ -66,7 +66,7 @@ loop-again c =
     let l = p .before .before .loop in
     let s = start-of p in
     let read = mark-read _ _ (s .pre .0) _ _ (s .args .g) (s .args .also) (s .pre .1) (p .fragment-state .result) (c .mark .ensures)
-    (c .before .before .before .before .place .ensures) (c .before .before .before .cell .ensures) (c .before .before .cell2 .ensures) (c .before .cell3 .ensures) in (
+    (c .before .before .before .before .place .ensures) (c .before .before .before .cell .ensures) (c .before .before .known .ensures) (c .before .known2 .ensures) in (
       omega arith,
       marks-more _ (s .pre .0 .lent .image .is-job) _ _ (s .args .also) (l .i) (below p) (p .fragment-state .result) (p .fragment-state .ensures .0)
           (c .mark .result) read (l .marks) (l .inv .1),
@@ -98,6 +98,6 @@ returns c =
 
 pub set-of-spec : {M : Type 1} → statement M
 set-of-spec =
-    let first = tie.spec Inv-loop μ-loop fragment-size-requires loop-holds fragment-state-requires place-requires cell-requires cell-requires-2 in
-    let second = first cell-requires-3 (λ c κs. search needs) array-write-marks (λ c. omega arith) (λ c. omega arith) loop-again spread-requires in
+    let first = tie.spec Inv-loop μ-loop fragment-size-requires loop-holds fragment-state-requires place-requires cell-requires known-requires in
+    let second = first known-requires-2 (λ c κs. search needs) array-write-marks (λ c. omega arith) (λ c. omega arith) loop-again spread-requires in
     tie.close (second returns)

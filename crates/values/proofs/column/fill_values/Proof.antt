@@ -6,7 +6,7 @@ use Rattle.image.specs.Image.{jobOf, fragmentSize}
 use Rattle.table.specs.Filling.{Filling}
 use Rattle.table.proofs.FillingLoops.{filling-start, filling-cell, filling-over}
 use Rattle.values.specs.Values.{values}
-use Rattle.values.proofs.ValueLaws.{range-up}
+use Rattle.job.proofs.RuleLaws.{range-up}
 use Rattle.values.proofs.ColumnLaws.{values-turn, values-kept, filling-is, values-filled}
 use borrow.Author.Needs.{needs}
 use native.Mathlib.Omega.{arith}
