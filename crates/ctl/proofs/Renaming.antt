@@ -1,19 +1,23 @@
 -- Truth by walks does not depend on the numbers of subformulas: where one list of subformulas stands under other numbers in another
--- list, a subformula holds exactly where the one with its new number does, on every structure. Assumes nothing.
+-- list, a subformula holds exactly where the one with its new number does, on every structure. So a subformula means what its kind means
+-- of what its operands mean, whatever the fuel. Assumes nothing.
 use Prim.Native.Nat.{ℕ, zero, suc, _-_, _<_}
-use mathlib.Core.Path.{_≡_, refl}
+use mathlib.Core.Path.{_≡_, refl, sym}
 use mathlib.Core.List.{List, [], _∷_}
 use mathlib.Core.Logic.{_↔_}
 use native.Mathlib.Nat.{le-refl, not-suc-le-zero}
 use native.Mathlib.Omega.{arith}
+use lib.ListN.{length}
 use Rattle.job.specs.Job.{Structure, subformula}
 use Rattle.job.specs.Formula.{renamed}
 use Rattle.job.specs.Rule.{InRange}
 use Rattle.job.specs.Written.{Operands}
 use Rattle.job.specs.declared.subformula.Subformula.{Subformula}
 use Rattle.job.specs.declared.subformula.Subformula.the-variants.{Atom, And}
-use Rattle.ctl.specs.Truth.{truthUpTo, Holds}
+use Rattle.ctl.specs.Truth.{meaning, truthUpTo, Holds}
 use Rattle.ctl.specs.Renaming.{Renames}
+use Rattle.job.proofs.Formula.{renamed-same}
+use Rattle.ctl.proofs.Labelling.{Smaller}
 use Rattle.ctl.proofs.Truth.{meaning-renamed}
 
 module _ (M : Structure) (ρ : ℕ → ℕ) (f g : List Subformula) (bound : ℕ) (renames : Renames ρ f bound g) where
@@ -32,6 +36,21 @@ module _ (M : Structure) (ρ : ℕ → ℕ) (f g : List Subformula) (bound : ℕ
   pub holds-renamed : (k : ℕ) → k < bound → (s : ℕ) → Holds M f k s ↔ Holds M g (ρ k) s
   unfolding Holds
   holds-renamed k l = within-renamed (suc k) (suc (ρ k)) k (le-refl (suc k)) (le-refl (suc (ρ k))) l
+
+-- A list under its own numbers: the fuel does not matter.
+module _ (M : Structure) (f : List Subformula) (smaller : Smaller f) where
+  same-numbers : Renames (λ k. k) f (length f) f
+  same-numbers = record { same = λ k l. sym (renamed-same (subformula f k)); left = smaller; right = smaller }
+
+  pub holds-meaning : (k : ℕ) → k < length f → (s : ℕ) → Holds M f k s ↔ meaning M (Holds M f) (subformula f k) s
+  unfolding Holds truthUpTo
+  holds-meaning k l s =
+      let g = subformula f k in
+      rw (renamed-same g)
+      at
+      (meaning-renamed M (λ a. a) k k (truthUpTo M f k) (Holds M f)
+      (λ a x y. within-renamed M (λ a. a) f f (length f) same-numbers k (suc a) a x (le-refl (suc a)) (omega arith))
+      g (smaller k l) (rw (renamed-same g) (smaller k l)) s)
 
 -- Such lists: p0, p0 again, and both; and p0 once, and both.
 abbrev pub twice : List Subformula

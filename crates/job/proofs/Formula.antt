@@ -9,7 +9,7 @@ use lib.ListN.{length, getD}
 use lib.Dec.{leb, ltb, eqb}
 use borrow.Author.Tests.{ltb-true, lt-ltb, leb-true, le-leb, eqb-true}
 use Rattle.law.proofs.Bool.{split, cond-true, cond-false, and-left, and-right}
-use Rattle.job.specs.Formula.{atomic, unary, binary, parsed, fields, isFormula, formula}
+use Rattle.job.specs.Formula.{atomic, unary, binary, parsed, fields, isFormula, formula, renamed}
 use Rattle.job.specs.Rule.{ruleOf, InRange, Valued}
 use Rattle.job.specs.Written.{Operands}
 use Rattle.job.specs.declared.subformula.Subformula.{Subformula}
@@ -148,6 +148,19 @@ rule-valued (Au a b) = omega arith
 rule-valued (Eu a b) = omega arith
 rule-valued (Eg a) = omega arith
 rule-valued (Ag a) = omega arith
+
+-- Its operands under their own numbers.
+pub renamed-same : (f : Subformula) → renamed (λ k. k) f ≡ f
+unfolding renamed
+renamed-same (Atom j) = refl
+renamed-same (Not a) = refl
+renamed-same (And a b) = refl
+renamed-same (Ax a) = refl
+renamed-same (Ex a) = refl
+renamed-same (Au a b) = refl
+renamed-same (Eu a b) = refl
+renamed-same (Eg a) = refl
+renamed-same (Ag a) = refl
 
 -- A line that is not malformed has its formula.
 pub formula-is : (p : Parsed) → isFormula p ≡ true → p ≡ Formula (formula p)

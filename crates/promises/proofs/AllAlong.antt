@@ -1,0 +1,165 @@
+-- What request (iii) promises, from the laws of the one set rule: EG and AG on walks, their sets in a step, and close by kind. Assumes
+-- nothing.
+use Prim.Native.Nat.{ℕ, _<_, _≤_}
+use mathlib.Core.Path.{_≡_, refl, sym, _∙_, ap}
+use mathlib.Core.Bool.{Bool, true, false, cond, _&&_, _||_}
+use mathlib.Core.List.{List, [], _∷_}
+use mathlib.Core.Logic.{_↔_}
+use native.Mathlib.Nat.{le-refl}
+use native.Mathlib.Omega.{arith}
+use borrow.Author.Tests.{lt-ltb, le-ltb, eq-eqb, ne-eqb}
+use lib.ListN.{getD}
+use lib.Dec.{leb, ltb, eqb}
+use Rattle.law.specs.Fixpoint.{member}
+use Rattle.law.specs.Lists.{some}
+use Rattle.law.proofs.Bool.{split}
+use Rattle.law.proofs.Bounded.{by-equal}
+use Rattle.text.specs.Field.{Text}
+use Rattle.job.specs.Job.{Job, Quantifier, forAll, exists, decode, size, subformulaCount, subformula}
+use Rattle.job.specs.Formula.{atomic, unary, binary, parsed, fields, isFormula}
+use Rattle.job.specs.Rule.{ruleOf, ruleAt, closedValue, quantifier, IsSets, InRange}
+use Rattle.job.specs.Answer.{accepted}
+use Rattle.job.specs.Written.{IsJob}
+use Rattle.job.specs.declared.subformula.Subformula.{Subformula}
+use Rattle.job.specs.declared.subformula.Subformula.the-variants.{Atom, Not, And, Ax, Ex, Au, Eu, Eg, Ag}
+use Rattle.job.specs.declared.subformula.Parsed.the-variants.{Formula, Malformed}
+use Rattle.job.specs.declared.rule.Condition.the-variants.{Always, Fails}
+use Rattle.job.specs.declared.rule.Rule.the-variants.{Sets}
+use Rattle.job.proofs.Exact.{decode-is-job}
+use Rattle.ctl.specs.Truth.{Walk, Throughout, OnWalks, meaning, Holds}
+use Rattle.ctl.proofs.Renaming.{holds-meaning}
+use Rattle.cells.specs.Fragment.{inFragment}
+use Rattle.cells.specs.Table.{Table, cell, isEmpty, filled}
+use Rattle.cells.specs.SetRule.{SetRule, setRule, smallest, largest}
+use Rattle.cells.specs.Sets as sets
+use Rattle.cells.specs.Step.{opposite, known, column, stepTable}
+use Rattle.cells.specs.Close.{smallestOpen, closeTable}
+use Rattle.cells.specs.Calls.{step, close, told, left}
+use Rattle.cells.proofs.Fill.{fill-cell}
+use Rattle.cells.proofs.Formed.{Formed, cell-low, stepTable-formed}
+use Rattle.cells.proofs.Lower.{open-sets}
+use Rattle.cells.proofs.Repeat.{bySets-at}
+use Rattle.cells.proofs.Sets.{smallest-is, largest-is}
+use Rattle.cells.proofs.Settled.{settled-is}
+use Rattle.cells.proofs.Tells.{by-cell}
+use Rattle.promises.specs.AllAlong.{admitted, FalseIn, TrueIn, BySets, ClosesTo, six, seven, eight, nine, kindOf, ClosedByKind}
+
+-- "EG a: on some walk a holds everywhere; AG a: on every walk."
+module _ (J : Job) (is : IsJob J) (k a : ℕ) (l : k < subformulaCount J) (s : ℕ) where
+  abbrev True : ℕ → ℕ → Type 0
+  True = Holds (J .structure) (J .formula)
+
+  pub eg-walks :
+      subformula (J .formula) k ≡ Eg a → True k s ↔ ((w : Walk (J .structure) s) × ((i : ℕ) → True a (w .at i)))
+  unfolding meaning OnWalks Throughout subformulaCount
+  eg-walks e = rw e at (holds-meaning (J .structure) (J .formula) (is .operands) k l s)
+
+  pub ag-walks :
+      subformula (J .formula) k ≡ Ag a → True k s ↔ ((w : Walk (J .structure) s) (i : ℕ) → True a (w .at i))
+  unfolding meaning OnWalks Throughout subformulaCount
+  ag-walks e = rw e at (holds-meaning (J .structure) (J .formula) (is .operands) k l s)
+
+-- "Question 8 admits 1 to 9": by the nine kinds.
+formula-if : (c : Bool) (f : Subformula) → isFormula (cond c (Formula f) Malformed) ≡ c
+unfolding isFormula
+formula-if true f = refl
+formula-if false f = refl
+
+pub question-8 : (k kind a b : ℕ) → isFormula (parsed k kind a b) ≡ admitted k kind a b
+unfolding parsed atomic unary binary isFormula admitted some
+question-8 k kind a b =
+    by-equal kind 1 (λ e. rw e (formula-if (leb a 15 && eqb b 0) (Atom a))) λ n1.
+    by-equal kind 2 (λ e. rw e (formula-if (ltb a k && eqb b 0) (Not a))) λ n2.
+    by-equal kind 3 (λ e. rw e (formula-if (ltb a k && ltb b k) (And a b))) λ n3.
+    by-equal kind 4 (λ e. rw e (formula-if (ltb a k && eqb b 0) (Ax a))) λ n4.
+    by-equal kind 5 (λ e. rw e (formula-if (ltb a k && eqb b 0) (Ex a))) λ n5.
+    by-equal kind 6 (λ e. rw e (formula-if (ltb a k && ltb b k) (Au a b))) λ n6.
+    by-equal kind 7 (λ e. rw e (formula-if (ltb a k && ltb b k) (Eu a b))) λ n7.
+    by-equal kind 8 (λ e. rw e (formula-if (ltb a k && eqb b 0) (Eg a))) λ n8.
+    by-equal kind 9 (λ e. rw e (formula-if (ltb a k && eqb b 0) (Ag a))) λ n9.
+    simp (
+      ne-eqb kind 1 n1,
+      ne-eqb kind 2 n2,
+      ne-eqb kind 3 n3,
+      ne-eqb kind 4 n4,
+      ne-eqb kind 5 n5,
+      ne-eqb kind 6 n6,
+      ne-eqb kind 7 n7,
+      ne-eqb kind 8 n8,
+      ne-eqb kind 9 n9,
+    )
+
+-- The sets of the rule are those of the request, where it starts at "a false" and grows everywhere.
+opposite-zero : (c : ℕ) → c ≤ 2 → opposite c ≡ 1 → c ≡ 0
+unfolding opposite isEmpty
+opposite-zero c low e =
+    by-cell c low (λ z. z) (λ z. absurd (omega (arith, rw z at e))) (λ z. absurd (omega (arith, rw z at e)))
+
+opposite-one : (c : ℕ) → c ≤ 2 → opposite c ≡ 0 → c ≡ 1
+unfolding opposite isEmpty
+opposite-one c low e =
+    by-cell c low (λ z. absurd (omega (arith, rw z at e))) (λ z. z) (λ z. absurd (omega (arith, rw z at e)))
+
+module _ (J : Job) (n : ℕ) (at : ℕ → ℕ → ℕ) (low : (j s : ℕ) → at j s ≤ 2) (k a : ℕ) (all : Bool) where
+  abbrev own : ℕ → ℕ
+  own = at k
+
+  abbrev q : Quantifier
+  q = quantifier all
+
+  abbrev R : SetRule
+  R = setRule q (known at (Fails a)) (known at Always) 0
+
+  abbrev L : List Bool
+  L = smallest J n own R
+
+  false-joins : (X : ℕ → Bool) (s : ℕ) → FalseIn J n own (at a) q X s → sets.Joins J n own R X s
+  unfolding known opposite isEmpty
+  false-joins X s (FalseIn.already e) = sets.already e
+  false-joins X s (FalseIn.fails e i z) = sets.starts e i (rw z refl)
+  false-joins X s (FalseIn.follows e i o) = sets.grows e i refl o
+
+  joins-false : (X : ℕ → Bool) (s : ℕ) → sets.Joins J n own R X s → FalseIn J n own (at a) q X s
+  unfolding known
+  joins-false X s (sets.already e) = FalseIn.already e
+  joins-false X s (sets.starts e i z) = FalseIn.fails e i (opposite-zero (at a s) (low a s) z)
+  joins-false X s (sets.grows e i g o) = FalseIn.follows e i o
+
+  true-stays : (X : ℕ → Bool) (s : ℕ) → TrueIn J n own (at a) q (member L) X s → sets.Stays J n own R L X s
+  unfolding known opposite isEmpty
+  true-stays X s (TrueIn.already e) = sets.other e
+  true-stays X s (TrueIn.follows e out i o over) = sets.follows e out i (rw o refl) over
+
+  stays-true : (X : ℕ → Bool) (s : ℕ) → sets.Stays J n own R L X s → TrueIn J n own (at a) q (member L) X s
+  unfolding known
+  stays-true X s (sets.other e) = TrueIn.already e
+  stays-true X s (sets.blocked e out i z g) = absurd (omega arith)
+  stays-true X s (sets.follows e out i z over) = TrueIn.follows e out i (opposite-one (at a s) (low a s) z) over
+
+  all-along-sets : BySets J n own (at a) q (λ s. getD (column J n at k (Sets all (Fails a) Always 0)) s 2)
+  unfolding column
+  all-along-sets =
+      let small = smallest-is J n own R in
+      let large = largest-is J n own R L in
+      record {
+        falses = member L;
+        joined = λ s l why. small .joined s l (false-joins (member L) s why);
+        smallest = λ Y closed. small .within-each Y (λ s l why. closed s l (joins-false Y s why));
+        trues = member (largest J n own R L);
+        reason = λ s e. stays-true (member (largest J n own R L)) s (large .reason s e);
+        largest = λ Y bound held. large .holds-each Y bound (λ s e. true-stays Y s (held s e));
+        taken = bySets-at J n own R;
+      }
+
+-- What goes by sets closes by its kind.
+sets-kind : (f : Subformula) → IsSets (ruleOf f) → ClosesTo (kindOf f) (closedValue (ruleOf f))
+unfolding fields
+sets-kind (Atom j) i = let e = i .is in let z : _≡_ {A = ℕ} 0 1 = cc in absurd (omega arith)
+sets-kind (Not a) i = let e = i .is in let z : _≡_ {A = ℕ} 0 1 = cc in absurd (omega arith)
+sets-kind (And a b) i = let e = i .is in let z : _≡_ {A = ℕ} 0 1 = cc in absurd (omega arith)
+sets-kind (Ax a) i = let e = i .is in let z : _≡_ {A = ℕ} 0 1 = cc in absurd (omega arith)
+sets-kind (Ex a) i = let e = i .is in let z : _≡_ {A = ℕ} 0 1 = cc in absurd (omega arith)
+sets-kind (Au a b) i = six
+sets-kind (Eu a b) i = seven
+sets-kind (Eg a) i = eight
+sets-kind (Ag a) i = nine
