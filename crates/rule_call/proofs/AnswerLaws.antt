@@ -20,7 +20,7 @@ use Rattle.job.specs.Job.{subformula}
 use Rattle.job.specs.Rule.{InRange}
 use Rattle.job.specs.Written.{Operands}
 use Rattle.job.specs.declared.subformula.Subformula.{Subformula}
-use Rattle.job.specs.declared.subformula.Subformula.the-variants.{Atom, Not, And, Ax, Ex, Au, Eu}
+use Rattle.job.specs.declared.subformula.Subformula.the-variants.{Atom, Not, And, Ax, Ex, Au, Eu, Eg, Ag}
 use Rattle.rule_text.specs.Tree.{Tree}
 use Rattle.rule_text.specs.Lines.{linesOf, linesText}
 use Rattle.rule_text.specs.Parse.{reading}
@@ -62,6 +62,8 @@ fields-short k (Ax a) l o = (omega arith, (omega arith, (omega arith, tt)))
 fields-short k (Ex a) l o = (omega arith, (omega arith, (omega arith, tt)))
 fields-short k (Au a b) l (o, p, q) = (omega arith, (omega arith, (omega arith, tt)))
 fields-short k (Eu a b) l (o, p, q) = (omega arith, (omega arith, (omega arith, tt)))
+fields-short k (Eg a) l (o, p, q) = (omega arith, (omega arith, (omega arith, tt)))
+fields-short k (Ag a) l (o, p, q) = (omega arith, (omega arith, (omega arith, tt)))
 
 -- An array of zeros holds no line.
 pub zeros-hold : (m : List ℕ) → length m ≡ 100 → getD m 99 0 ≡ 0 → HoldsLines m × (held m ≡ [])

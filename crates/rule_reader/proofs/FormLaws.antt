@@ -14,7 +14,7 @@ use Rattle.rule_text.specs.Lines.{rewritten, prefixLine}
 use Rattle.rule_text.specs.Kept.{keep, kept}
 use Rattle.rule_text.specs.Parse.{Parse, none, found, andThen, parse, readStep, readPrefix, readClosed, prefixForm, closedForm, parenthesized, untilForm}
 use Rattle.rule_text.specs.declared.token.Prefix.{Prefix as PrefixOperator}
-use Rattle.rule_text.specs.declared.token.Prefix.the-variants.{Not, Ax, Ex}
+use Rattle.rule_text.specs.declared.token.Prefix.the-variants.{Not, Ax, Ex, Eg, Ag}
 use Rattle.rule_text.specs.declared.token.Token.{Token}
 use Rattle.rule_text.specs.declared.token.Token.the-variants.{Atom, Prefix, Operator, Mark, Unknown}
 use Rattle.rule_text.proofs.Descent.{parse-step}
@@ -125,6 +125,8 @@ unfolding fields prefixLine prefixKind
 prefix-fields Not a = refl
 prefix-fields Ax a = refl
 prefix-fields Ex a = refl
+prefix-fields Eg a = refl
+prefix-fields Ag a = refl
 
 -- A prefix form: a prefix operator and its operand, or a closed form.
 no-token-prefix : (ts : List Token) → NoToken ts → readPrefix parse ts ≡ parse closedForm ts

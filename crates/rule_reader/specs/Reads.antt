@@ -11,7 +11,7 @@ use Rattle.rule_text.specs.Kept.{kept}
 use Rattle.rule_text.specs.Scan.{tokens}
 use Rattle.rule_text.specs.Parse.{Parse, none, found}
 use Rattle.rule_text.specs.declared.token.Prefix.{Prefix}
-use Rattle.rule_text.specs.declared.token.Prefix.the-variants.{Not, Ax, Ex}
+use Rattle.rule_text.specs.declared.token.Prefix.the-variants.{Not, Ax, Ex, Eg, Ag}
 use Rattle.rule_text.specs.declared.token.Token.{Token}
 use Rattle.rule_lines.specs.Held.{HoldsKept}
 use Rattle.rule_reader.specs.declared.parse.Part.{Part}
@@ -23,6 +23,8 @@ unfoldable pub prefixKind : Prefix → ℕ
 prefixKind Not = 2
 prefixKind Ax = 4
 prefixKind Ex = 5
+prefixKind Eg = 8
+prefixKind Ag = 9
 
 unfoldable pub untilKind : Bool → ℕ
 untilKind all = cond all 6 7

@@ -39,6 +39,8 @@ fn kind_of(p: Prefix) -> usize
         Prefix::Not => 2,
         Prefix::Ax => 4,
         Prefix::Ex => 5,
+        Prefix::Eg => 8,
+        Prefix::Ag => 9,
     }
 }
 

@@ -38,7 +38,9 @@ lineWith k a b =
     (cond (eqb k 3) (kind.And a b)
     (cond (eqb k 4) (kind.Ax a)
     (cond (eqb k 5) (kind.Ex a)
-    (cond (eqb k 6) (kind.Au a b) (kind.Eu a b))))))
+    (cond (eqb k 6) (kind.Au a b)
+    (cond (eqb k 7) (kind.Eu a b)
+    (cond (eqb k 8) (kind.Eg a) (kind.Ag a))))))))
 
 readLine : List ℕ → Subformula
 readLine l = lineWith (getD l 0 0) (getD l 1 0) (getD l 2 0)
@@ -52,6 +54,8 @@ read-fields (kind.Ax a) = refl
 read-fields (kind.Ex a) = refl
 read-fields (kind.Au a b) = refl
 read-fields (kind.Eu a b) = refl
+read-fields (kind.Eg a) = refl
+read-fields (kind.Ag a) = refl
 
 same-line : (f g : Subformula) → equal (fields f) (fields g) ≡ true → g ≡ f
 same-line f g e = sym (read-fields g) ∙ sym (ap readLine (equal-is (fields f) (fields g) e)) ∙ read-fields f

@@ -14,7 +14,7 @@ use Rattle.law.specs.Lists.{every}
 use Rattle.law.proofs.Bool.{clash, and-left, and-right, and-no-left, or-left, or-right}
 use Rattle.text.specs.Field.{Text, isDigit}
 use Rattle.text.proofs.FieldLaws.{digit-range}
-use Rattle.rule_text.specs.declared.token.Prefix.the-variants.{Not, Ax, Ex}
+use Rattle.rule_text.specs.declared.token.Prefix.the-variants.{Not, Ax, Ex, Eg, Ag}
 use Rattle.rule_text.specs.declared.token.Operator.the-variants.{And, Or, Implies}
 use Rattle.rule_text.specs.declared.token.Token.{Token}
 use Rattle.rule_text.specs.declared.token.Token.the-variants.{Atom, Prefix, Operator, Mark}
@@ -128,7 +128,13 @@ module _ (c : ℕ) (x : Text) where
       (λ _.
       by-test (eqb c 69 && eqb d 88) _ _
       (λ e. two-found (Prefix Ex) refl some (pair-is c 69 d 88 e) (λ _. n))
-      (λ _. inl refl)))
+      (λ _.
+      by-test (eqb c 69 && eqb d 71) _ _
+      (λ e. two-found (Prefix Eg) refl some (pair-is c 69 d 71 e) (λ _. n))
+      (λ _.
+      by-test (eqb c 65 && eqb d 71) _ _
+      (λ e. two-found (Prefix Ag) refl some (pair-is c 65 d 71 e) (λ _. n))
+      (λ _. inl refl)))))
 
   word3-found :
       letterOrDigit (getD x 1 0) ≡ true → letterOrDigit (getD x 2 0) ≡ false → Found (c ∷ x) (word3 c (getD x 0 0) (getD x 1 0))

@@ -9,7 +9,7 @@ use Rattle.job.specs.Job.{subformula}
 use Rattle.job.specs.Rule.{InRange}
 use Rattle.job.specs.Written.{Operands}
 use Rattle.job.specs.declared.subformula.Subformula.{Subformula}
-use Rattle.job.specs.declared.subformula.Subformula.the-variants.{Atom, Not, And, Ax, Ex, Au, Eu}
+use Rattle.job.specs.declared.subformula.Subformula.the-variants.{Atom, Not, And, Ax, Ex, Au, Eu, Eg, Ag}
 use Rattle.rule_text.specs.declared.token.Operator.{Operator}
 use Rattle.rule_text.specs.declared.token.Operator.the-variants as operator
 use Rattle.rule_text.specs.Tree.{Tree, AtomsInRange}
@@ -83,6 +83,8 @@ ranged-operands k (Ax a) o = o
 ranged-operands k (Ex a) o = o
 ranged-operands k (Au a b) (o, p) = (p, o, omega arith)
 ranged-operands k (Eu a b) (o, p) = (p, o, omega arith)
+ranged-operands k (Eg a) o = (o, tt, omega arith)
+ranged-operands k (Ag a) o = (o, tt, omega arith)
 
 pub lines-operands : (f : Tree) → AtomsInRange f → (k : ℕ) → k < length (linesOf f) → Operands k (subformula (linesOf f) k)
 unfolding linesOf

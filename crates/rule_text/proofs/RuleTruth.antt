@@ -12,16 +12,16 @@ use Rattle.job.specs.Job.{Structure, Quantifier, forAll, exists, subformula}
 use Rattle.job.specs.declared.subformula.Subformula.{Subformula}
 use Rattle.job.specs.declared.subformula.Subformula.the-variants.{Atom, And, Au, Eu}
 use Rattle.job.specs.declared.subformula.Subformula.the-variants as kind
-use Rattle.ctl.specs.Truth.{Predicate, Walk, Until, meaning, truthUpTo, Holds}
+use Rattle.ctl.specs.Truth.{Predicate, Walk, Until, Throughout, OnWalks, meaning, truthUpTo, Holds}
 use Rattle.ctl.specs.Labelling.{sat}
 use Rattle.ctl.proofs.Total.{State, Total}
-use Rattle.ctl.proofs.Walks.{walk-state}
+use Rattle.ctl.proofs.Walks.{walk-state, on-walks-map}
 use Rattle.ctl.proofs.Truth.{holds-sat}
 use Rattle.rule_text.specs.declared.token.Prefix.{Prefix}
-use Rattle.rule_text.specs.declared.token.Prefix.the-variants.{Not, Ax, Ex}
+use Rattle.rule_text.specs.declared.token.Prefix.the-variants.{Not, Ax, Ex, Eg, Ag}
 use Rattle.rule_text.specs.declared.token.Operator.{Operator}
 use Rattle.rule_text.specs.declared.token.Operator.the-variants as operator
-use Rattle.rule_text.specs.Tree.{Tree, prefixed, joined, onWalks, Satisfies}
+use Rattle.rule_text.specs.Tree.{Tree, prefixed, joined, Satisfies}
 use Rattle.rule_text.specs.Tree as tree
 use Rattle.rule_text.specs.Lines.{Basic, atom, prefix, both, until, joining, rewritten, placed, linesOf}
 use Rattle.rule_text.proofs.Says.{lineSays, saysUpTo, says}
@@ -32,7 +32,7 @@ BasicHolds : Structure → Basic → Predicate
 BasicHolds M (atom j) s = job.atom M j s ≡ true
 BasicHolds M (prefix p f) s = prefixed M p (BasicHolds M f) s
 BasicHolds M (both f g) s = BasicHolds M f s × BasicHolds M g s
-BasicHolds M (until q f g) s = onWalks M q (BasicHolds M f) (BasicHolds M g) s
+BasicHolds M (until q f g) s = OnWalks M q s (Until M (BasicHolds M f) (BasicHolds M g) s)
 
 -- Where truth is decided, or and implies may be said with not and and.
 or-by-and : (A B : Type 0) → Dec A → Dec B → (A ⊎ B) ↔ ((A → ⊥) × (B → ⊥) → ⊥)
@@ -64,6 +64,15 @@ module _ (M : Structure) (total : Total M) where
   abbrev Same : Predicate → Predicate → Type 0
   Same A B = (s : ℕ) → State M s → A s ↔ B s
 
+  -- Over walks too, since their places are states.
+  throughout-same :
+      (q : Quantifier) (A B : Predicate) → Same A B → Same (λ s. OnWalks M q s (Throughout M A s)) (λ s. OnWalks M q s (Throughout M B s))
+  unfolding Throughout
+  throughout-same q A B h s l = (
+    on-walks-map M s _ _ q (λ w g i. h (w .at i) (walk-state M total s w i) .0 (g i)),
+    on-walks-map M s _ _ q (λ w g i. h (w .at i) (walk-state M total s w i) .1 (g i)),
+  )
+
   prefix-same : (p : Prefix) (A B : Predicate) → Same A B → Same (prefixed M p A) (prefixed M p B)
   unfolding prefixed
   prefix-same Not A B h s l = Iff·not (h s l)
@@ -72,43 +81,43 @@ module _ (M : Structure) (total : Total M) where
     (λ (t, e, a). (t, e, h t (total .inside s t e .1) .0 a)),
     (λ (t, e, b). (t, e, h t (total .inside s t e .1) .1 b)),
   )
+  prefix-same Eg A B h s l = throughout-same _ A B h s l
+  prefix-same Ag A B h s l = throughout-same _ A B h s l
 
   module _ (A B C D : Predicate) (a : Same A C) (b : Same B D) where
-    until-same : (s : ℕ) (w : Walk M s) → Until M A B s w → Until M C D s w
-    until-same s w u =
+    until-map : (s : ℕ) (w : Walk M s) → Until M A B s w → Until M C D s w
+    until-map s w u =
         record {
           place = u .place;
           reached = b (w .at (u .place)) (walk-state M total s w (u .place)) .0 (u .reached);
           before = λ i h. a (w .at i) (walk-state M total s w i) .0 (u .before i h);
         }
 
-  walks-same : (q : Quantifier) (A B C D : Predicate) → Same A C → Same B D → Same (onWalks M q A B) (onWalks M q C D)
-  unfolding onWalks
-  walks-same q A B C D a b s l = by q
-    where
-      there : (w : Walk M s) → Until M A B s w → Until M C D s w
-      there = until-same A B C D a b s
-
-      back : (w : Walk M s) → Until M C D s w → Until M A B s w
-      back = until-same C D A B (λ t g. Iff·symm (a t g)) (λ t g. Iff·symm (b t g)) s
-
-      by : (q : Quantifier) → onWalks M q A B s ↔ onWalks M q C D s
-      by forAll = (λ h w. there w (h w), λ h w. back w (h w))
-      by exists = (λ (w, u). (w, there w u), λ (w, u). (w, back w u))
+  until-same :
+      (q : Quantifier) (A B C D : Predicate)
+      → Same A C
+      → Same B D
+      → Same (λ s. OnWalks M q s (Until M A B s)) (λ s. OnWalks M q s (Until M C D s))
+  until-same q A B C D a b s l = (
+    on-walks-map M s _ _ q (until-map A B C D a b s),
+    on-walks-map M s _ _ q (until-map C D A B (λ t g. Iff·symm (a t g)) (λ t g. Iff·symm (b t g)) s),
+  )
 
   -- A line is true where what it says is.
   meaning-says :
       (A : ℕ → Predicate) (r : ℕ → Basic)
       → ((a : ℕ) → Same (A a) (BasicHolds M (r a)))
       → (f : Subformula) → Same (meaning M A f) (BasicHolds M (lineSays r f))
-  unfolding meaning lineSays BasicHolds prefixed onWalks
+  unfolding meaning lineSays BasicHolds prefixed
   meaning-says A r h (Atom j) = λ s l. Iff·rfl
   meaning-says A r h (kind.Not a) = prefix-same Not (A a) (BasicHolds M (r a)) (h a)
   meaning-says A r h (And a b) = λ s l. Iff·and (h a s l) (h b s l)
   meaning-says A r h (kind.Ax a) = prefix-same Ax (A a) (BasicHolds M (r a)) (h a)
   meaning-says A r h (kind.Ex a) = prefix-same Ex (A a) (BasicHolds M (r a)) (h a)
-  meaning-says A r h (Au a b) = walks-same forAll (A a) (A b) (BasicHolds M (r a)) (BasicHolds M (r b)) (h a) (h b)
-  meaning-says A r h (Eu a b) = walks-same exists (A a) (A b) (BasicHolds M (r a)) (BasicHolds M (r b)) (h a) (h b)
+  meaning-says A r h (Au a b) = until-same forAll (A a) (A b) (BasicHolds M (r a)) (BasicHolds M (r b)) (h a) (h b)
+  meaning-says A r h (Eu a b) = until-same exists (A a) (A b) (BasicHolds M (r a)) (BasicHolds M (r b)) (h a) (h b)
+  meaning-says A r h (kind.Eg a) = prefix-same Eg (A a) (BasicHolds M (r a)) (h a)
+  meaning-says A r h (kind.Ag a) = prefix-same Ag (A a) (BasicHolds M (r a)) (h a)
 
   within-says : (ls : List Subformula) (n k : ℕ) → Same (truthUpTo M ls n k) (BasicHolds M (saysUpTo ls n k))
   unfolding truthUpTo saysUpTo BasicHolds prefixed
@@ -148,7 +157,7 @@ module _ (M : Structure) (total : Total M) where
       (joined-same o _ _ _ _ (satisfies-rewritten f s l) (satisfies-rewritten g s l))
       (joining-holds o (rewritten f) (rewritten g) s l)
   satisfies-rewritten (tree.until q f g) =
-      walks-same q (Satisfies M f) (Satisfies M g) (BasicHolds M (rewritten f)) (BasicHolds M (rewritten g))
+      until-same q (Satisfies M f) (Satisfies M g) (BasicHolds M (rewritten f)) (BasicHolds M (rewritten g))
       (satisfies-rewritten f) (satisfies-rewritten g)
 
   pub rule-truth : (f : Tree) (s : ℕ) → State M s → Satisfies M f s ↔ Holds M (linesOf f) (length (linesOf f) - 1) s

@@ -10,7 +10,7 @@ use Rattle.job.specs.declared.subformula.Subformula.{Subformula}
 use Rattle.job.specs.declared.subformula.Subformula.the-variants.{Atom, And, Au, Eu}
 use Rattle.job.specs.declared.subformula.Subformula.the-variants as kind
 use Rattle.rule_text.specs.declared.token.Prefix.{Prefix}
-use Rattle.rule_text.specs.declared.token.Prefix.the-variants.{Not, Ax, Ex}
+use Rattle.rule_text.specs.declared.token.Prefix.the-variants.{Not, Ax, Ex, Eg, Ag}
 use Rattle.rule_text.specs.Lines.{Basic, atom, prefix, both, until, negation, prefixLine, untilLine}
 
 -- What a line says, given what its operands say.
@@ -22,12 +22,16 @@ lineSays r (kind.Ax a) = prefix Ax (r a)
 lineSays r (kind.Ex a) = prefix Ex (r a)
 lineSays r (Au a b) = until forAll (r a) (r b)
 lineSays r (Eu a b) = until exists (r a) (r b)
+lineSays r (kind.Eg a) = prefix Eg (r a)
+lineSays r (kind.Ag a) = prefix Ag (r a)
 
 pub prefix-says : (r : ℕ → Basic) (p : Prefix) (a : ℕ) → lineSays r (prefixLine p a) ≡ prefix p (r a)
 unfolding lineSays prefixLine
 prefix-says r Not a = refl
 prefix-says r Ax a = refl
 prefix-says r Ex a = refl
+prefix-says r Eg a = refl
+prefix-says r Ag a = refl
 
 pub until-says : (r : ℕ → Basic) (q : Quantifier) (a b : ℕ) → lineSays r (untilLine q a b) ≡ until q (r a) (r b)
 unfolding lineSays untilLine
@@ -55,12 +59,16 @@ module _ (P : ℕ → Type 0) where
   Ranged k (kind.Ex a) = a < k
   Ranged k (Au a b) = (a < k) × (b < k)
   Ranged k (Eu a b) = (a < k) × (b < k)
+  Ranged k (kind.Eg a) = a < k
+  Ranged k (kind.Ag a) = a < k
 
   pub prefix-ranged : (p : Prefix) (k a : ℕ) → a < k → Ranged k (prefixLine p a)
   unfolding Ranged prefixLine
   prefix-ranged Not k a l = l
   prefix-ranged Ax k a l = l
   prefix-ranged Ex k a l = l
+  prefix-ranged Eg k a l = l
+  prefix-ranged Ag k a l = l
 
   pub until-ranged : (q : Quantifier) (k a b : ℕ) → a < k → b < k → Ranged k (untilLine q a b)
   unfolding Ranged untilLine
@@ -76,6 +84,8 @@ module _ (P : ℕ → Type 0) where
   line-same r q k same (kind.Ex a) o = ap (prefix Ex) (same a o)
   line-same r q k same (Au a b) (o, p) = ap₂ (until forAll) (same a o) (same b p)
   line-same r q k same (Eu a b) (o, p) = ap₂ (until exists) (same a o) (same b p)
+  line-same r q k same (kind.Eg a) o = ap (prefix Eg) (same a o)
+  line-same r q k same (kind.Ag a) o = ap (prefix Ag) (same a o)
 
   -- Two lists with the same lines below a bound, of operands in range.
   module _ (ls gs : List Subformula) (bound : ℕ) (ranged : (k : ℕ) → k < bound → Ranged k (subformula ls k))

@@ -11,7 +11,7 @@ use lib.ListN.{length, getD}
 use Rattle.law.specs.Lists.{every}
 use Rattle.law.proofs.Bool.{split, and-intro, or-cases}
 use Rattle.text.specs.Field.{Text, isDigit}
-use Rattle.rule_text.specs.declared.token.Prefix.the-variants.{Not, Ax, Ex}
+use Rattle.rule_text.specs.declared.token.Prefix.the-variants.{Not, Ax, Ex, Eg, Ag}
 use Rattle.rule_text.specs.declared.token.Operator.the-variants.{And, Or, Implies}
 use Rattle.rule_text.specs.declared.token.Token.{Token}
 use Rattle.rule_text.specs.declared.token.Token.the-variants.{Atom, Prefix, Operator, Mark, Unknown}
@@ -112,6 +112,8 @@ word-byte (Atom j) y e = sym (atom-word j (leb-true j 15 e))
 word-byte (Prefix Not) y e = refl
 word-byte (Prefix Ax) y e = refl
 word-byte (Prefix Ex) y e = refl
+word-byte (Prefix Eg) y e = refl
+word-byte (Prefix Ag) y e = refl
 word-byte (Operator And) y e = refl
 word-byte (Operator Or) y e = refl
 word-byte (Operator Implies) y e = refl
@@ -126,6 +128,8 @@ lexeme-spelling (Atom j) y e n = let h = leb-true j 15 e in atom-first j y h (n 
 lexeme-spelling (Prefix Not) y e n = refl
 lexeme-spelling (Prefix Ax) y e n = simp (n refl)
 lexeme-spelling (Prefix Ex) y e n = simp (n refl)
+lexeme-spelling (Prefix Eg) y e n = simp (n refl)
+lexeme-spelling (Prefix Ag) y e n = simp (n refl)
 lexeme-spelling (Operator And) y e n = refl
 lexeme-spelling (Operator Or) y e n = refl
 lexeme-spelling (Operator Implies) y e n = refl

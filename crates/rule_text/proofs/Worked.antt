@@ -1,5 +1,5 @@
--- Document 02 (i), worked out by hand: trees of texts, texts that are no rule, and the lines of rules. Each is computed from the definitions.
--- Assumes nothing.
+-- Document 02 (i), and (iii) for EG and AG, worked out by hand: trees of texts, texts that are no rule, and the lines of rules. Each is
+-- computed from the definitions. Assumes nothing.
 use Prim.Native.Char.{code}
 use Prim.Native.String.{String, [] as end, _∷_ as _then_}
 use Prim.Native.Nat.{ℕ}
@@ -15,7 +15,7 @@ use Rattle.job.specs.Job.{forAll, exists}
 use Rattle.job.specs.Formula.{fields}
 use Rattle.job.specs.declared.subformula.Subformula.{Subformula}
 use Rattle.job.specs.declared.subformula.Subformula.the-variants as kind
-use Rattle.rule_text.specs.declared.token.Prefix.the-variants.{Not, Ax}
+use Rattle.rule_text.specs.declared.token.Prefix.the-variants.{Not, Ax, Eg, Ag}
 use Rattle.rule_text.specs.declared.token.Operator.the-variants.{And, Or, Implies}
 use Rattle.rule_text.specs.Tree.{Tree, atom, prefix, binary, until}
 use Rattle.rule_text.specs.Token.{isBracket, isLetterMark, letterOrDigit}
@@ -87,6 +87,19 @@ or-tighter-left : treeOf "p0 | p1 => p2" ≡ some (binary Implies (binary Or (at
 unfolding treeOf
 or-tighter-left = refl
 
+-- (iii): "`EG` and `AG` as prefixes like `AX`"
+throughout-tightest : treeOf "EG p0 & p1" ≡ some (binary And (prefix Eg (atom 0)) (atom 1))
+unfolding treeOf
+throughout-tightest = refl
+
+throughout-twice : treeOf "AG EG p0" ≡ some (prefix Ag (prefix Eg (atom 0)))
+unfolding treeOf
+throughout-twice = refl
+
+throughout-not : treeOf "EG !p0" ≡ some (prefix Eg (prefix Not (atom 0)))
+unfolding treeOf
+throughout-not = refl
+
 -- "`&` and `|` group to the left, `=>` to the right."
 and-groups-left : treeOf "p0 & p1 & p2" ≡ some (binary And (binary And (atom 0) (atom 1)) (atom 2))
 unfolding treeOf
@@ -108,6 +121,18 @@ spaces-anywhere = refl
 words-joined : treeOf "AXp0" ≡ none
 unfolding treeOf
 words-joined = refl
+
+eg-joined : treeOf "EGp0" ≡ none
+unfolding treeOf
+eg-joined = refl
+
+ag-joined : treeOf "AGp0" ≡ none
+unfolding treeOf
+ag-joined = refl
+
+eg-apart : treeOf "E G p0" ≡ none
+unfolding treeOf
+eg-apart = refl
 
 arrow-apart : treeOf "p0 = > p1" ≡ none
 unfolding treeOf
@@ -131,7 +156,7 @@ until-twice : treeOf "A[p0 U p1 U p2]" ≡ none
 unfolding treeOf
 until-twice = refl
 
-prefix-unknown : treeOf "AG p0" ≡ none
+prefix-unknown : treeOf "AF p0" ≡ none
 unfolding treeOf
 prefix-unknown = refl
 
@@ -169,3 +194,10 @@ same-lines = refl
 same-text : linesText (linesIn "p0 & p0") ≡ quoted "    1    0    0\n    3    0    0\n"
 unfolding linesIn flatten digitColumn decimal line linesText
 same-text = refl
+
+-- (iii): "kind 8, EG a, and kind 9, AG a"
+throughout-text :
+    linesText (linesIn "AG (p0 => EG p1)")
+    ≡ quoted "    1    0    0\n    1    1    0\n    8    1    0\n    2    2    0\n    3    0    3\n    2    4    0\n    9    5    0\n"
+unfolding linesIn flatten digitColumn decimal line linesText
+throughout-text = refl

@@ -1,5 +1,6 @@
 -- Document 02 (i): the grammar of rule text. "Prefix `!`, `AX`, `EX` bind tightest. Then come `&`, `|`, `=>`, weaker in this order; `&` and
--- `|` group to the left, `=>` to the right. `A[f U g]`, `E[f U g]` and `(f)` are closed forms." Assumes nothing.
+-- `|` group to the left, `=>` to the right. `A[f U g]`, `E[f U g]` and `(f)` are closed forms." (iii): "`EG` and `AG` as prefixes like `AX`".
+-- Assumes nothing.
 use Prim.Native.Nat.{ℕ, suc, _≤_}
 use mathlib.Core.Bool.{Bool, true, false, cond}
 use mathlib.Core.List.{List, [], _∷_, _++_}

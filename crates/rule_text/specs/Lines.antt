@@ -1,6 +1,6 @@
 -- Document 02 (i): the lines that a rule becomes. "`f | g` becomes not(not f and not g), and `f => g` becomes not(f and not g). In the rule so
 -- rewritten, all of a left operand's lines come first, then the right's, then the operator's own, and a line equal to an earlier one is
--- not written again." Assumes nothing.
+-- not written again." (iii): "kind 8, EG a, and kind 9, AG a". Assumes nothing.
 use Prim.Native.Nat.{ℕ, suc}
 use mathlib.Core.Bool.{Bool, true, false, cond, _&&_}
 use mathlib.Core.List.{List, [], _∷_, _++_, map}
@@ -14,13 +14,13 @@ use Rattle.job.specs.Formula.{fields}
 use Rattle.job.specs.declared.subformula.Subformula.{Subformula}
 use Rattle.job.specs.declared.subformula.Subformula.the-variants as kind
 use Rattle.rule_text.specs.declared.token.Prefix.{Prefix}
-use Rattle.rule_text.specs.declared.token.Prefix.the-variants.{Not, Ax, Ex}
+use Rattle.rule_text.specs.declared.token.Prefix.the-variants.{Not, Ax, Ex, Eg, Ag}
 use Rattle.rule_text.specs.declared.token.Operator.{Operator}
 use Rattle.rule_text.specs.declared.token.Operator.the-variants.{And, Or, Implies}
 use Rattle.rule_text.specs.Tree.{Tree}
 use Rattle.rule_text.specs.Tree as tree
 
--- A rule in document 01's kinds: and is its only binary operator.
+-- A rule in the kinds of a job's subformulas: and is its only binary operator.
 pub data Basic : Type 0 where
   atom : ℕ → Basic
   prefix : Prefix → Basic → Basic
@@ -46,6 +46,8 @@ unfoldable pub prefixLine : Prefix → ℕ → Subformula
 prefixLine Not a = kind.Not a
 prefixLine Ax a = kind.Ax a
 prefixLine Ex a = kind.Ex a
+prefixLine Eg a = kind.Eg a
+prefixLine Ag a = kind.Ag a
 
 unfoldable pub untilLine : Quantifier → ℕ → ℕ → Subformula
 untilLine forAll a b = kind.Au a b

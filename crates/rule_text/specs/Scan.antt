@@ -6,7 +6,7 @@ use mathlib.Core.List.{List, [], _∷_}
 use lib.ListN.{getD}
 use lib.Dec.{leb, eqb}
 use Rattle.text.specs.Field.{Text, isDigit}
-use Rattle.rule_text.specs.declared.token.Prefix.the-variants.{Not, Ax, Ex}
+use Rattle.rule_text.specs.declared.token.Prefix.the-variants.{Not, Ax, Ex, Eg, Ag}
 use Rattle.rule_text.specs.declared.token.Operator.the-variants.{And, Or, Implies}
 use Rattle.rule_text.specs.declared.token.Token.{Token}
 use Rattle.rule_text.specs.declared.token.Token.the-variants.{Atom, Prefix, Operator, Mark, Unknown}
@@ -36,7 +36,9 @@ unfoldable pub word2 : ℕ → ℕ → Lexeme
 word2 c d =
     cond (eqb c 112 && isDigit d) (lexeme (Atom (d - 48)) 2)
     (cond (eqb c 65 && eqb d 88) (lexeme (Prefix Ax) 2)
-    (cond (eqb c 69 && eqb d 88) (lexeme (Prefix Ex) 2) unknown))
+    (cond (eqb c 69 && eqb d 88) (lexeme (Prefix Ex) 2)
+    (cond (eqb c 69 && eqb d 71) (lexeme (Prefix Eg) 2)
+    (cond (eqb c 65 && eqb d 71) (lexeme (Prefix Ag) 2) unknown))))
 
 unfoldable pub word3 : ℕ → ℕ → ℕ → Lexeme
 word3 c d e =

@@ -1,6 +1,6 @@
 -- Document 02 (i): the tokens of rule text, and how a text spells them. "Atoms are `p0` to `p15`." "Brackets, `A`, `E` and `U` are tokens;
--- spaces may stand before, between and after tokens and must stand between two of letters or digits." Bytes are those of ASCII; a space
--- is byte 32. Assumes nothing.
+-- spaces may stand before, between and after tokens and must stand between two of letters or digits." (iii): "`EG` and `AG` as prefixes
+-- like `AX`". Bytes are those of ASCII; a space is byte 32. Assumes nothing.
 use Prim.Native.Nat.{ℕ, _+_, _/_, _%_, _<_}
 use mathlib.Core.Path.{_≡_}
 use mathlib.Core.Bool.{Bool, true, false, cond, _&&_, _||_}
@@ -9,7 +9,7 @@ use lib.ListN.{replicate}
 use lib.Dec.{leb, ltb, eqb}
 use Rattle.law.specs.Lists.{every}
 use Rattle.text.specs.Field.{Text}
-use Rattle.rule_text.specs.declared.token.Prefix.the-variants.{Not, Ax, Ex}
+use Rattle.rule_text.specs.declared.token.Prefix.the-variants.{Not, Ax, Ex, Eg, Ag}
 use Rattle.rule_text.specs.declared.token.Operator.the-variants.{And, Or, Implies}
 use Rattle.rule_text.specs.declared.token.Token.{Token}
 use Rattle.rule_text.specs.declared.token.Token.the-variants.{Atom, Prefix, Operator, Mark, Unknown}
@@ -18,12 +18,14 @@ use Rattle.rule_text.specs.declared.token.Token.the-variants.{Atom, Pref
 unfoldable pub numeral : ℕ → List ℕ
 numeral j = cond (ltb j 10) ((48 + j) ∷ []) ((48 + j / 10) ∷ (48 + j % 10) ∷ [])
 
--- `p3`, `!`, `AX`, `EX`, `&`, `|`, `=>`; a mark is its byte
+-- `p3`, `!`, `AX`, `EX`, `EG`, `AG`, `&`, `|`, `=>`; a mark is its byte
 unfoldable pub spelling : Token → List ℕ
 spelling (Atom j) = 112 ∷ numeral j
 spelling (Prefix Not) = 33 ∷ []
 spelling (Prefix Ax) = 65 ∷ 88 ∷ []
 spelling (Prefix Ex) = 69 ∷ 88 ∷ []
+spelling (Prefix Eg) = 69 ∷ 71 ∷ []
+spelling (Prefix Ag) = 65 ∷ 71 ∷ []
 spelling (Operator And) = 38 ∷ []
 spelling (Operator Or) = 124 ∷ []
 spelling (Operator Implies) = 61 ∷ 62 ∷ []

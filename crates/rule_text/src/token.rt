@@ -4,6 +4,8 @@ pub enum Prefix {
     Not,
     Ax,
     Ex,
+    Eg,
+    Ag,
 }
 
 pub enum Operator {

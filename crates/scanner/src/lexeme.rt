@@ -152,7 +152,7 @@ fn letter(c: u8) -> Lexeme
     unknown()
 }
 
-// A word of two: `p0` to `p9`, `AX` or `EX`.
+// A word of two: `p0` to `p9`, `AX`, `EX`, `EG` or `AG`.
 fn pair(c: u8, d: u8) -> Lexeme
     ensures { λ r. ⌜ r ≡ scanned.word2 c d ⌝ }
 {
@@ -171,6 +171,18 @@ fn pair(c: u8, d: u8) -> Lexeme
     if are(c, d, b'E', b'X') {
         return Lexeme {
             token: Token::Prefix(Prefix::Ex),
+            width: 2,
+        };
+    }
+    if are(c, d, b'E', b'G') {
+        return Lexeme {
+            token: Token::Prefix(Prefix::Eg),
+            width: 2,
+        };
+    }
+    if are(c, d, b'A', b'G') {
+        return Lexeme {
+            token: Token::Prefix(Prefix::Ag),
             width: 2,
         };
     }

@@ -11,4 +11,5 @@ pair-spec =
     tie.close
     (tie.spec (λ c κs. search needs) (λ c. search units-from) (λ c. search needs) (λ c. search tests)
     (λ c κs. search needs) (λ c. search tests) (λ c κs. search needs) (λ c. search tests)
-    (λ c κs. search needs) (λ c. search tests))
+    (λ c κs. search needs) (λ c. search tests) (λ c κs. search needs) (λ c. search tests depth 6)
+    (λ c κs. search needs) (λ c. search tests depth 6))
