@@ -3,31 +3,40 @@
 -- rule with text x on buffer b answers a and leaves u. The words are those of `promises/specs`. Assumes nothing.
 use Prim.Native.Nat.{ℕ, _<_, _≤_}
 use mathlib.Core.Path.{_≡_}
-use mathlib.Core.List.{List, [], _∷_}
+use mathlib.Core.List.{List, [], _∷_, _++_}
 use mathlib.Core.Logic.{_↔_}
 use lib.ListN.{length}
 use Rattle.text.specs.Field.{Text}
-use Rattle.job.specs.Job.{Job, Structure, size, owner, decode}
+use Rattle.job.specs.Job.{Job, Structure, forAll, exists, size, subformulaCount, subformula, owner, decode}
+use Rattle.job.specs.Formula.{parsed, isFormula}
 use Rattle.job.specs.Answer.{Answer, accepted, refused}
 use Rattle.job.specs.Questions.{textQuestions, Accepted}
 use Rattle.job.specs.Read.{header, lineOf}
 use Rattle.job.specs.Written.{IsJob}
+use Rattle.job.specs.declared.subformula.Subformula.the-variants.{Eg, Ag}
+use Rattle.ctl.specs.Truth.{Walk, Holds}
 use Rattle.ctl.proofs.Total.{State, Total, total-job}
-use Rattle.cells.specs.Table.{Table, ownerCell}
+use Rattle.cells.specs.Table.{Table, cell, ownerCell}
 use Rattle.cells.specs.SetRule.{SetRule}
-use Rattle.cells.specs.Calls.{Call, step, accept, look, finish, questions, width, told}
+use Rattle.cells.specs.Calls.{Call, step, accept, look, close, finish, questions, width, told}
 use Rattle.cells.specs.Cases.{bytes, jobV, job2, job3}
-use Rattle.rule_text.specs.Tree.{Tree}
+use Rattle.cells.specs.AllAlong.{ringJob}
+use Rattle.rule_text.specs.declared.token.Prefix.{Prefix as PrefixOperator}
+use Rattle.rule_text.specs.declared.token.Token.the-variants.{Prefix}
+use Rattle.rule_text.specs.Tree.{Tree, prefix}
+use Rattle.rule_text.specs.Token.{spelling}
 use Rattle.rule_text.specs.Grammar.{Means}
 use Rattle.rule_text.specs.RuleCall.{ruleLines, ruleQuestions, InLimits}
 use Rattle.rule_text.proofs.Reading.{means-one}
 use Rattle.rule_text.proofs.RuleTruth.{rule-truth}
+use Rattle.rule_text.proofs.Prefixes.{prefix-means}
 use Rattle.rule_text.proofs.Worked.{exampleRule, example-limits}
 use Rattle.promises.specs.Contracts.{Loan, Happens, Reads, HandsBack, Prints, Rules, PrintsRule, MayHappen}
 use Rattle.promises.specs.Demand1.{AnswersBy}
-use Rattle.promises.specs.Demand2.{Accepts, JobText, FilledByRules, SmallestAndLargest, Judged}
+use Rattle.promises.specs.Demand2.{Accepts, JobText, ruled, FilledByRules, SmallestAndLargest, Judged}
 use Rattle.promises.specs.Demand3.{FreshFor, ListOfCalls, leftBy, AsDefined, CellsTrue, OneMoreFinish, OneMachine}
 use Rattle.promises.specs.UnnamedNode.{unnamedQuestions, unknownNodeQuestions}
+use Rattle.promises.specs.AllAlong.{admitted, BySets, ClosedByKind}
 use Rattle.promises.specs.RuleText.{LinesWritten, LastLineIsTruth, LinesInOrder, InJob, RulePrinted}
 use Rattle.demands.specs.Functions.{AsksNothing, Proved}
 use Rattle.demands.proofs.Proved.{asks-nothing, proved}
@@ -39,7 +48,8 @@ use Rattle.promises.proofs.Ends.{calls-defined, calls-cells, calls-finish, fres
 use Rattle.promises.proofs.Judged.{prints-judged}
 use Rattle.promises.proofs.RuleText.{rules-first, rules-stay, rules-exact, rules-written, rules-in-job, means-in-order, rules-agree, prints-rule}
 use Rattle.promises.proofs.UnnamedNode.{happens-named, happens-owner, happens-unnamed, happens-never-18, happens-step-255, happens-accept-255}
-use Rattle.promises.proofs.Hypotheses.{lent, fresh-for, one-machine, example, looked}
+use Rattle.promises.proofs.AllAlong.{question-8, eg-walks, ag-walks, happens-eg, happens-ag, happens-closed}
+use Rattle.promises.proofs.Hypotheses.{lent, fresh-for, one-machine, example, looked, ring-example}
 
 -- Demand 1. "Any bytes and any numbers:
 pub any-bytes-and-any-numbers : AsksNothing
@@ -185,6 +195,56 @@ module _ (l : Loan) (x : Text) (t u : Table) (a : Answer) where
 
   pub accept-refuses-255 : (s k v : ℕ) → Happens l x (accept 255 s k v) t a u → AnswersBy (unknownNodeQuestions x t) 1 [] a
   accept-refuses-255 = happens-accept-255 x t l a u
+
+-- Request (iii), rules that hold all along. "Question 8 admits 1 to 9":
+pub question-8-admits : (k kind a b : ℕ) → isFormula (parsed k kind a b) ≡ admitted k kind a b
+question-8-admits = question-8
+
+-- "EG a: on some walk a holds everywhere; AG a: on every walk."
+module _ (J : Job) (is : IsJob J) (k a s : ℕ) (l : k < subformulaCount J) where
+  pub eg-on-some-walk :
+      subformula (J .formula) k ≡ Eg a
+      → Holds (J .structure) (J .formula) k s
+      ↔ ((w : Walk (J .structure) s) × ((i : ℕ) → Holds (J .structure) (J .formula) a (w .at i)))
+  eg-on-some-walk = eg-walks J is k a l s
+
+  pub ag-on-every-walk :
+      subformula (J .formula) k ≡ Ag a
+      → Holds (J .structure) (J .formula) k s
+      ↔ ((w : Walk (J .structure) s) (i : ℕ) → Holds (J .structure) (J .formula) a (w .at i))
+  ag-on-every-walk = ag-walks J is k a l s
+
+-- "In a step EG's true cells are the largest set already true, or with a true and some successor in the set. Its false cells are the smallest
+-- set already false, or with a false, or with all successors in the set. AG has all for some and some for all":
+module _ (l : Loan) (x : Text) (t u : Table) (own : List ℕ) (n k a : ℕ) where
+  pub eg-fills-by-its-sets :
+      Happens l x (step n) t (accepted own) u
+      → k < subformulaCount (decode x)
+      → subformula (decode x .formula) k ≡ Eg a
+      → BySets (decode x) n (λ s. cell (decode x) t n s k) (λ s. cell (decode x) u n s a) forAll (ruled (decode x) n t u k)
+  eg-fills-by-its-sets = happens-eg l x t u own n k a
+
+  pub ag-fills-by-its-sets :
+      Happens l x (step n) t (accepted own) u
+      → k < subformulaCount (decode x)
+      → subformula (decode x .formula) k ≡ Ag a
+      → BySets (decode x) n (λ s. cell (decode x) t n s k) (λ s. cell (decode x) u n s a) exists (ruled (decode x) n t u k)
+  ag-fills-by-its-sets = happens-ag l x t u own n k a
+
+-- "Close now fills by kind: 0 for kinds 6 and 7, 1 for kinds 8 and 9."
+pub close-fills-by-kind :
+    (l : Loan) (x : Text) (t u : Table) (own : List ℕ) → Happens l x close t (accepted own) u → ClosedByKind (decode x) t own u
+close-fills-by-kind = happens-closed
+
+-- "Rule text takes `EG` and `AG` as prefixes like `AX`": behind each of them, as behind every prefix, a rule in parentheses is a rule.
+pub prefixes-alike :
+    (p : PrefixOperator) (x : Text) (f : Tree) → Means x f → Means (spelling (Prefix p) ++ (40 ∷ (x ++ (41 ∷ [])))) (prefix p f)
+prefixes-alike = prefix-means
+
+-- "Every order of messages still has to end in CTL truth for jobs with the two kinds": `demand-3` is about every job, and this is a list of
+-- calls for one of them, in which a close fills 1.
+pub calls-all-along : ListOfCalls (bytes ringJob)
+calls-all-along = ring-example
 
 -- What is supposed here can be had: what is defined may happen, a table fresh for a text, two cuttings of one machine, a list with messages, a
 -- rule within the limits, structures in which each state has an edge out, and a look without a node that is accepted.

@@ -1,7 +1,7 @@
 -- What request (iii) promises, from the laws of the one set rule: EG and AG on walks, their sets in a step, and close by kind. Assumes
 -- nothing.
 use Prim.Native.Nat.{ℕ, _<_, _≤_}
-use mathlib.Core.Path.{_≡_, refl, sym, _∙_, ap}
+use mathlib.Core.Path.{_≡_, refl, sym, _∙_, ap, subst}
 use mathlib.Core.Bool.{Bool, true, false, cond, _&&_, _||_}
 use mathlib.Core.List.{List, [], _∷_}
 use mathlib.Core.Logic.{_↔_}
@@ -12,7 +12,7 @@ use lib.ListN.{getD}
 use lib.Dec.{leb, ltb, eqb}
 use Rattle.law.specs.Fixpoint.{member}
 use Rattle.law.specs.Lists.{some}
-use Rattle.law.proofs.Bool.{split}
+use Rattle.law.proofs.Bool.{split, cond-false}
 use Rattle.law.proofs.Bounded.{by-equal}
 use Rattle.text.specs.Field.{Text}
 use Rattle.job.specs.Job.{Job, Quantifier, forAll, exists, decode, size, subformulaCount, subformula}
@@ -24,6 +24,7 @@ use Rattle.job.specs.declared.subformula.Subformula.{Subformula}
 use Rattle.job.specs.declared.subformula.Subformula.the-variants.{Atom, Not, And, Ax, Ex, Au, Eu, Eg, Ag}
 use Rattle.job.specs.declared.subformula.Parsed.the-variants.{Formula, Malformed}
 use Rattle.job.specs.declared.rule.Condition.the-variants.{Always, Fails}
+use Rattle.job.specs.declared.rule.Rule.{Rule}
 use Rattle.job.specs.declared.rule.Rule.the-variants.{Sets}
 use Rattle.job.proofs.Exact.{decode-is-job}
 use Rattle.ctl.specs.Truth.{Walk, Throughout, OnWalks, meaning, Holds}
@@ -35,14 +36,18 @@ use Rattle.cells.specs.Sets as sets
 use Rattle.cells.specs.Step.{opposite, known, column, stepTable}
 use Rattle.cells.specs.Close.{smallestOpen, closeTable}
 use Rattle.cells.specs.Calls.{step, close, told, left}
-use Rattle.cells.proofs.Fill.{fill-cell}
+use Rattle.cells.proofs.Fill.{fill-cell, fill-cell-left}
 use Rattle.cells.proofs.Formed.{Formed, cell-low, stepTable-formed}
 use Rattle.cells.proofs.Lower.{open-sets}
 use Rattle.cells.proofs.Repeat.{bySets-at}
 use Rattle.cells.proofs.Sets.{smallest-is, largest-is}
 use Rattle.cells.proofs.Settled.{settled-is}
 use Rattle.cells.proofs.Tells.{by-cell}
+use Rattle.promises.specs.Contracts.{Loan, Happens}
+use Rattle.promises.specs.Demand2.{ruled}
 use Rattle.promises.specs.AllAlong.{admitted, FalseIn, TrueIn, BySets, ClosesTo, six, seven, eight, nine, kindOf, ClosedByKind}
+use Rattle.promises.proofs.Contracts.{happens-defined}
+use Rattle.promises.proofs.Calls.{accepted-taken, taken-told, taken-left, taken-accepted, close-asked, step-formed, close-formed}
 
 -- "EG a: on some walk a holds everywhere; AG a: on every walk."
 module _ (J : Job) (is : IsJob J) (k a : ℕ) (l : k < subformulaCount J) (s : ℕ) where
@@ -163,3 +168,72 @@ sets-kind (Au a b) i = six
 sets-kind (Eu a b) i = seven
 sets-kind (Eg a) i = eight
 sets-kind (Ag a) i = nine
+
+-- The same of an accepted step and an accepted close.
+module _ (l : Loan) (x : Text) (t u : Table) (given : List ℕ) where
+  abbrev J : Job
+  J = decode x
+
+  happens-along :
+      (n k a : ℕ) (all : Bool)
+      → Happens l x (step n) t (accepted given) u
+      → k < subformulaCount J
+      → ruleAt J k ≡ Sets all (Fails a) Always 0
+      → BySets J n (λ s. cell J t n s k) (λ s. cell J u n s a) (quantifier all) (ruled J n t u k)
+  unfolding ruled left InRange
+  happens-along n k a all happens below rule =
+      let (told-is, left-is) = happens-defined l x (step n) t (accepted given) u happens in
+      let taken = accepted-taken (step n) x t given (sym told-is) in
+      let formed = step-formed x t n taken in
+      let after : u ≡ stepTable J n t = left-is ∙ taken-left (step n) x t taken in
+      let at : ℕ → ℕ → ℕ = λ j s. cell J (cond (ltb j k) u t) n s j in
+      let low : (j s : ℕ) → at j s ≤ 2 =
+      λ j s.
+      split (ltb j k)
+      (λ e. rw (e, after) (cell-low J (stepTable J n t) (stepTable-formed J t formed n) n s j))
+      (λ e. rw e (cell-low J t formed n s j)) in
+      let smaller = rw rule at (decode-is-job x (taken-accepted (step n) x t taken) .operands k below) in
+      rw (le-ltb k k (le-refl k), lt-ltb a k (smaller .0)) at
+      (subst (λ (r : Rule). BySets J n (at k) (at a) (quantifier all) (λ s. getD (column J n at k r) s 2)) (sym rule)
+      (all-along-sets J n at low k a all))
+
+  pub happens-eg :
+      (n k a : ℕ)
+      → Happens l x (step n) t (accepted given) u
+      → k < subformulaCount J
+      → subformula (J .formula) k ≡ Eg a
+      → BySets J n (λ s. cell J t n s k) (λ s. cell J u n s a) forAll (ruled J n t u k)
+  happens-eg n k a happens below is = happens-along n k a true happens below (ap ruleOf is)
+
+  pub happens-ag :
+      (n k a : ℕ)
+      → Happens l x (step n) t (accepted given) u
+      → k < subformulaCount J
+      → subformula (J .formula) k ≡ Ag a
+      → BySets J n (λ s. cell J t n s k) (λ s. cell J u n s a) exists (ruled J n t u k)
+  happens-ag n k a happens below is = happens-along n k a false happens below (ap ruleOf is)
+
+  pub happens-closed : Happens l x close t (accepted given) u → ClosedByKind J t given u
+  unfolding told left closeTable
+  happens-closed happens =
+      let (told-is, left-is) = happens-defined l x close t (accepted given) u happens in
+      let taken = accepted-taken close x t given (sym told-is) in
+      let after : u ≡ closeTable J t = left-is ∙ taken-left close x t taken in
+      let said : accepted given ≡ accepted (smallestOpen J t ∷ filled t (closeTable J t) ∷ []) = told-is ∙ taken-told close x t taken in
+      let given-is : given ≡ smallestOpen J t ∷ filled t (closeTable J t) ∷ [] = cc in
+      let (still, some-open) = close-asked x t taken in
+      let formed = close-formed x t taken in
+      let job = decode-is-job x (taken-accepted close x t taken) in
+      let k = smallestOpen J t in
+      let v = closedValue (ruleAt J k) in
+      rw (given-is, after)
+      (record {
+        told = refl;
+        value = v;
+        by-kind = sets-kind (subformula (J .formula) k) (open-sets J job t formed (settled-is J t (formed .long) still) some-open);
+        cells =
+            λ n s j b c.
+            split (eqb j k)
+            (λ e. fill-cell J _ t n s j b c ∙ simp e)
+            (λ e. fill-cell-left J _ t n s j b c (cond-false (eqb j k) v 2 e) ∙ simp e);
+      })

@@ -1,9 +1,9 @@
 -- A call by its answer: a refused one leaves the table, and of an accepted one every question that it puts has a yes, as a fact
 -- about its numbers and the table. Assumes nothing.
 use Prim.Native.Nat.{ℕ, _<_, _≤_}
-use mathlib.Core.Path.{_≡_, sym, _∙_}
+use mathlib.Core.Path.{_≡_, refl, sym, _∙_}
 use mathlib.Core.Bool.{true}
-use mathlib.Core.List.{List}
+use mathlib.Core.List.{List, _∷_}
 use mathlib.Core.Option as opt
 use native.Mathlib.Omega.{arith}
 use lib.ListN.{length, getD}
@@ -24,7 +24,7 @@ use Rattle.cells.specs.Calls.{Call, fresh, step, offer, accept, close, finish, 
 use Rattle.promises.specs.Contracts.{Loan, Happens}
 use Rattle.promises.specs.Demand1.{AnswersBy, reads, refuses}
 use Rattle.cells.proofs.CallLaws.{numbers-in}
-use Rattle.cells.proofs.Formed.{Formed, is-formed}
+use Rattle.cells.proofs.Formed.{Formed, formed-is, is-formed}
 use Rattle.promises.proofs.Contracts.{happens-defined}
 
 -- "reads or refuses under the number of the first check that fails"
@@ -101,6 +101,25 @@ module _ (x : Text) (t : Table) where
     taken-asked close x t taken 2 (omega arith),
     ltb-true (closing.smallestOpen (decode x) t) (subformulaCount (decode x)) (taken-asked close x t taken 3 (omega arith)),
   )
+
+  -- every call but fresh puts 9 and 10 first
+  asked-formed :
+      (c : Call) (more : List Question)
+      → ownQuestions c (decode x) t ≡ tableSize (decode x) t ∷ tableCells (decode x) t ∷ more
+      → Taken c x t
+      → Formed (decode x) t
+  unfolding tableSize tableCells ofCall
+  asked-formed c more first taken =
+      let asked = taken-asked c x t taken in
+      formed-is (decode x) t (rw first at (asked 0 (rw first (omega arith)))) (rw first at (asked 1 (rw first (omega arith))))
+
+  pub step-formed : (n : ℕ) → Taken (step n) x t → Formed (decode x) t
+  unfolding ownQuestions
+  step-formed n = asked-formed (step n) _ refl
+
+  pub close-formed : Taken close x t → Formed (decode x) t
+  unfolding ownQuestions
+  close-formed = asked-formed close _ refl
 
   -- Finish puts no other question, so it is accepted on every table that passes 9 and 10.
   pub finish-taken : Accepted x → Formed (decode x) t → Taken finish x t

@@ -1,7 +1,9 @@
--- The hypotheses of demand 3 and of request (ii) can be met: every list of calls can be made, every accepted text has a table fresh for it, one machine has two
+-- The hypotheses of demand 3 and of requests (ii) and (iii) can be met: every list of calls can be made, every accepted text has a table fresh for it, one machine has two
 -- cuttings, and there is a list with a message in it: on case C2 node 1 steps and offers what it knows of its border state, node 0 accepts
--- it, accepts it again, and node 1 and an empty text are refused; and a look without a node is accepted there. Assumes nothing.
+-- it, accepts it again, and node 1 and an empty text are refused; and a look without a node is accepted there; and a list
+-- on a ring with EG in which a close fills 1. Assumes nothing.
 use Prim.Native.Nat.{ℕ}
+use Prim.Native.String.{String}
 use mathlib.Core.Path.{_≡_, refl, sym, subst}
 use mathlib.Core.List.{List, [], _∷_, map, List·Memᴰ, List·Memᴰ·head}
 use native.Mathlib.Omega.{arith}
@@ -13,6 +15,7 @@ use Rattle.job.specs.Questions.{Accepted}
 use Rattle.cells.specs.Table.{Table, tableLength}
 use Rattle.cells.specs.Calls.{Call, fresh, step, offer, accept, look, close, answer, after}
 use Rattle.cells.specs.Cases.{bytes, jobV, job2, job3, zeros}
+use Rattle.cells.specs.AllAlong.{ringJob}
 use Rattle.cells.proofs.CallLaws.{fresh-accepted}
 use Rattle.cells.proofs.Printed.{printed}
 use Rattle.promises.specs.Contracts.{Loan, Happens}
@@ -60,31 +63,30 @@ pub one-machine : OneMachine (bytes jobV) (bytes job3)
 unfolding printed
 one-machine = record { structure = refl; formula = refl }
 
-unfoldable pub of-job : Call → Made
-of-job c = record { text = bytes job2; call = c }
+-- A list of calls from a fresh table.
+unfoldable pub start : Text → Table
+start x = after fresh x (zeros x)
 
-unfoldable pub calls : List Made
-calls =
-    of-job (step 1) ∷ of-job (offer 1 2) ∷ of-job (accept 0 1 2 1) ∷ of-job (accept 0 1 2 1) ∷ of-job (accept 1 1 2 1)
-    ∷ record { text = []; call = close }
-    ∷ []
+pub listed : (x : Text) → Accepted x → (cs : List Made) → Meant x [] (played cs (start x)) → ListOfCalls x
+unfolding start
+listed x is cs meant =
+    record {
+      start = start x;
+      fresh-start = fresh-for x is;
+      events = played cs (start x);
+      happened = played-happened cs (start x);
+      meant = meant;
+    }
 
-unfoldable pub start : Table
-start = after fresh (bytes job2) (zeros (bytes job2))
-
-pub start-fresh : FreshFor (bytes job2) start
-unfolding printed start Accepted
-start-fresh = fresh-for (bytes job2) refl
-
-unfoldable pub events : List Event
-events = played calls start
-
--- neither a step nor an offer is an accept; an accept's message is the one that it names
+-- neither a step nor an offer nor a close is an accept; an accept's message is the one that it names
 step-none : (m : ℕ) (out : List Message) (n s k v : ℕ) → step m ≡ accept n s k v → List·Memᴰ (record { state = s; subformula = k; value = v }) out
 step-none m out n s k v e = let z : _≡_ {A = ℕ} 0 1 = cc in absurd (omega arith)
 
 offer-none : (a b : ℕ) (out : List Message) (n s k v : ℕ) → offer a b ≡ accept n s k v → List·Memᴰ (record { state = s; subformula = k; value = v }) out
 offer-none a b out n s k v e = let z : _≡_ {A = ℕ} 0 1 = cc in absurd (omega arith)
+
+close-none : (out : List Message) (n s k v : ℕ) → close ≡ accept n s k v → List·Memᴰ (record { state = s; subformula = k; value = v }) out
+close-none out n s k v e = let z : _≡_ {A = ℕ} 0 1 = cc in absurd (omega arith)
 
 accept-known :
     (out : List Message) (m a b w : ℕ)
@@ -97,6 +99,19 @@ accept-known out m a b w known n s k v e =
     subst (λ u. List·Memᴰ (record { state = u; subformula = k; value = v }) out) p
     (subst (λ u. List·Memᴰ (record { state = a; subformula = u; value = v }) out) q
     (subst (λ u. List·Memᴰ (record { state = a; subformula = b; value = u }) out) r known))
+
+unfoldable pub of-job : String → Call → Made
+of-job j c = record { text = bytes j; call = c }
+
+unfoldable pub calls : List Made
+calls =
+    of-job job2 (step 1) ∷ of-job job2 (offer 1 2) ∷ of-job job2 (accept 0 1 2 1) ∷ of-job job2 (accept 0 1 2 1)
+    ∷ of-job job2 (accept 1 1 2 1)
+    ∷ record { text = []; call = close }
+    ∷ []
+
+unfoldable pub events : List Event
+events = played calls (start (bytes job2))
 
 pub events-meant : Meant (bytes job2) [] events
 unfolding printed calls of-job start events played Meant handedOut
@@ -119,19 +134,42 @@ unfolding printed calls of-job start events played
 events-told = refl
 
 pub example : ListOfCalls (bytes job2)
-unfolding events
-example =
-    record {
-      start = start;
-      fresh-start = start-fresh;
-      events = events;
-      happened = played-happened calls start;
-      meant = events-meant;
-    }
+unfolding printed events Accepted
+example = listed (bytes job2) refl calls events-meant
+
+-- On the ring with EG p0 both nodes step, a close fills 1, and what it filled is offered and accepted.
+unfoldable pub ring-calls : List Made
+ring-calls =
+    of-job ringJob (step 0) ∷ of-job ringJob (step 1) ∷ of-job ringJob close ∷ of-job ringJob (offer 0 1)
+    ∷ of-job ringJob (accept 1 0 1 1)
+    ∷ []
+
+unfoldable pub ring-events : List Event
+ring-events = played ring-calls (start (bytes ringJob))
+
+pub ring-meant : Meant (bytes ringJob) [] ring-events
+unfolding printed ringJob ring-calls of-job start ring-events played Meant handedOut
+ring-meant = (
+  isMeant refl (step-none 0 []),
+  (
+    isMeant refl (step-none 1 []),
+    (isMeant refl (close-none []), (isMeant refl (offer-none 0 1 []), (isMeant refl (accept-known _ 1 0 1 1 (List·Memᴰ·head refl)), tt))),
+  ),
+)
+
+pub ring-told :
+    map (λ e. e .told) ring-events
+    ≡ accepted (2 ∷ []) ∷ accepted (2 ∷ []) ∷ accepted (1 ∷ 4 ∷ []) ∷ accepted (0 ∷ 1 ∷ 1 ∷ []) ∷ accepted (0 ∷ []) ∷ []
+unfolding printed ringJob ring-calls of-job start ring-events played
+ring-told = refl
+
+pub ring-example : ListOfCalls (bytes ringJob)
+unfolding printed ringJob ring-events Accepted
+ring-example = listed (bytes ringJob) refl ring-calls ring-meant
 
 -- On the same job node 1 has stepped and no message has come: the owner's cell of state 1 is filled, node 0's is not.
 looked-at : Table
-looked-at = after (step 1) (bytes job2) start
+looked-at = after (step 1) (bytes job2) (start (bytes job2))
 
 pub looked : (t : Table) × Happens lent (bytes job2) (look 255 1 2) t (accepted (1 ∷ [])) t
 unfolding printed start looked-at

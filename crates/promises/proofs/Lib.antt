@@ -8,3 +8,4 @@ pub mod Judged
 pub mod Hypotheses
 pub mod RuleText
 pub mod UnnamedNode
+pub mod AllAlong

@@ -16,4 +16,5 @@ pub mod LinesLaws
 pub mod RuleTruth
 pub mod RuleJob
 pub mod RuleCallLaws
+pub mod Prefixes
 pub mod Worked
