@@ -23,10 +23,19 @@ from dataclasses import dataclass
 from functools import lru_cache, wraps
 from typing import Callable, Iterable, NamedTuple, Sequence
 
-ATOM, NOT, AND, AX, EX, AU, EU = range(1, 8)
-"""The kinds of a subformula ("Job text")."""
+KINDS = range(1, 10)
+ATOM, NOT, AND, AX, EX, AU, EU, EG, AG = KINDS
+"""The kinds of a subformula ("Job text"; document 02, (iii))."""
 
-TEMPORAL = (AX, EX, AU, EU)
+UNTILS = (AU, EU)
+ALL_ALONG = (EG, AG)
+SETS = UNTILS + ALL_ALONG
+"""The kinds that a step fills by sets."""
+
+WITH_B = (AND, *UNTILS)
+"""The kinds with two operands."""
+
+TEMPORAL = (AX, EX, *SETS)
 FALSE, TRUE, EMPTY = 0, 1, 2
 """What a cell holds ("Fragments and cells")."""
 
@@ -201,9 +210,9 @@ def parse(text: bytes) -> Job:
 
     for k, (kind, a, b) in enumerate(rules):
         ask(
-            1 <= kind <= 7
+            kind in KINDS
             and (a <= 15 if kind == ATOM else a < k)
-            and (b < k if kind in (AND, AU, EU) else b == 0),
+            and (b < k if kind in WITH_B else b == 0),
             8,
             2 + first_rule + k,
         )
@@ -259,49 +268,74 @@ def rule_of_next(kind: int, at_successors: list[int]) -> int:
     return EMPTY
 
 
-def rule_of_until(
-    job: Job,
-    node: int,
-    kind: int,
-    own: Sequence[int],
-    a: Sequence[int],
-    b: Sequence[int],
-) -> tuple[set[int], set[int]]:
-    """The true and the false cells of an until ("A(a U b): ...").
+class SetRule(NamedTuple):
+    """What A(a U b), E(a U b), EG a and AG a differ in.
 
-    `own`, `a` and `b` are the node's cells at each state.  A border state is
-    in a set only by its own value.  The restriction holds while the sets are
-    made: the smallest set takes no cell already false, the largest starts
-    without the cells of the smallest.
+    One of the two sets of cells is the smallest that holds the cells with
+    `value` already, those where `start` is true, and those where `grow` is true
+    and `quantifier` (all or some) of the successors are in the set.  The other
+    is the largest of cells each with the other value already, or with `start`
+    false and either `grow` false or, in the other quantifier, successors in the
+    set.  `start` and `grow` have a cell for each state.
     """
-    true, false = (all, any) if kind == AU else (any, all)
-    owned = job.owned[node]
 
-    smallest = {s for s in job.fragment[node] if own[s] == TRUE}
+    quantifier: Callable[[Iterable[bool]], bool]
+    start: Sequence[int]
+    grow: Sequence[int]
+    value: int
+
+
+def set_rule(kind: int, a: Sequence[int], b: Sequence[int]) -> SetRule:
+    """ "The true cells are the smallest set holding those already true, those with
+    b true, and those with a true and all successors in the set"; of EG a, "false
+    cells are the smallest set already false, or with a false, or with all
+    successors in the set" (document 02, (iii)).  E(a U b) and AG a: some for all."""
+    if kind in UNTILS:
+        return SetRule(all if kind == AU else any, b, a, TRUE)
+    a_false = [rule_of_not(cell) for cell in a]
+    return SetRule(all if kind == EG else any, a_false, [TRUE] * len(a), FALSE)
+
+
+def rule_of_sets(
+    job: Job, node: int, own: Sequence[int], rule: SetRule
+) -> tuple[set[int], set[int]]:
+    """The smallest and the largest set; `own` are the node's cells at each state.
+
+    A border state is in a set only by its own value.  The restriction holds
+    while the sets are made: the smallest set takes no cell filled with the other
+    value, the largest starts without the cells of the smallest.
+    """
+    quantifier, start, grow, value = rule
+    dual = any if quantifier is all else all
+    owned = job.owned[node]
+    other = rule_of_not(value)
+
+    smallest = {s for s in job.fragment[node] if own[s] == value}
     while True:
         more = {
             s
             for s in owned
             if s not in smallest
-            and own[s] != FALSE
+            and own[s] != other
             and (
-                b[s] == TRUE
-                or (a[s] == TRUE and true(t in smallest for t in job.successors[s]))
+                start[s] == TRUE
+                or grow[s] == TRUE
+                and quantifier(t in smallest for t in job.successors[s])
             )
         }
         if not more:
             break
         smallest |= more
 
-    already = {s for s in job.fragment[node] if own[s] == FALSE}
-    largest = already.union(s for s in owned if s not in smallest and b[s] == FALSE)
+    already = {s for s in job.fragment[node] if own[s] == other}
+    largest = already.union(s for s in owned if s not in smallest and start[s] == FALSE)
     while True:
         fewer = {
             s
             for s in largest
             if s not in already
-            and a[s] != FALSE
-            and not false(t in largest for t in job.successors[s])
+            and grow[s] != FALSE
+            and not dual(t in largest for t in job.successors[s])
         }
         if not fewer:
             break
@@ -336,11 +370,10 @@ def fill_rule(job: Job, table: bytearray, node: int, k: int) -> int:
         for s in job.owned[node]:
             value[s] = rule_of_next(kind, [cells[t] for t in job.successors[s]])
     else:
-        smallest, largest = rule_of_until(
-            job, node, kind, column(k), column(a), column(b)
-        )
-        value.update(dict.fromkeys(smallest, TRUE))
-        value.update(dict.fromkeys(largest, FALSE))
+        rule = set_rule(kind, column(a), column(b))
+        smallest, largest = rule_of_sets(job, node, column(k), rule)
+        value.update(dict.fromkeys(smallest, rule.value))
+        value.update(dict.fromkeys(largest, rule_of_not(rule.value)))
 
     filled = 0
     for s, cell in value.items():
@@ -403,9 +436,11 @@ def lowest_open(job: Job, table: bytes | bytearray) -> int | None:
 
 
 def close_formula(job: Job, table: bytearray, k: int) -> int:
-    """ "Makes every empty cell of k in every fragment 0"; how many."""
+    """ "Makes every empty cell of k in every fragment 0", "1 for kinds 8 and 9"
+    (document 02, (iii)); how many."""
+    value = TRUE if job.rules[k].kind in ALL_ALONG else FALSE
     return sum(
-        fill(table, job.cell(node, s, k), FALSE)
+        fill(table, job.cell(node, s, k), value)
         for node in range(job.sizes.nodes)
         for s in job.fragment[node]
     )
@@ -443,7 +478,7 @@ class Rounds:
         for k, rule in enumerate(job.rules):
             if rule.kind != ATOM:
                 self.readers[rule.a].append(k)
-            if rule.kind in (AND, AU, EU):
+            if rule.kind in WITH_B:
                 self.readers[rule.b].append(k)
 
     def tell(self, node: int, k: int) -> None:
@@ -720,6 +755,11 @@ def truths(job: Job) -> list[set[int]]:
             here = {s for s in every if not holds[a].isdisjoint(job.successors[s])}
         elif kind == EU:
             here = reaching(job, holds[b], holds[a])
+        elif kind == EG:
+            # A walk that keeps to states with a comes to a cycle of them.
+            here = reaching(job, on_cycles(job, holds[a]), holds[a])
+        elif kind == AG:
+            here = every - reaching(job, every - holds[a], every)
         else:
             # A walk that spoils A(a U b) keeps to states without b, and either
             # comes to one without a as well, or goes on for ever: round a cycle.

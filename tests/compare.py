@@ -10,7 +10,7 @@ the same for rule text, as `compare_rules.py` has it, with TEXTS draws besides.
 CLONE is changed: give a clone of the repository, not the repository.
 
 The cases must show every answer of every call and notice every mutant of
-`mutants.py`; where they do not, the exit status is 1.
+`mutants.py`, but for those of truth; where they do not, the exit status is 1.
 """
 
 from __future__ import annotations
@@ -383,7 +383,7 @@ def main() -> int:
     options.add_argument("--seed", type=int, default=trials.SEED)
     options.add_argument("--count", type=int, default=trials.COUNT)
     options.add_argument("--texts", type=int, default=0)
-    options.add_argument("--batch", type=int, default=150)
+    options.add_argument("--batch", type=int, default=160)
     options.add_argument("--plant", action="store_true", help="make two cases wrong")
     chosen = options.parse_args()
     jobs = trials.trials(chosen.seed, chosen.count)

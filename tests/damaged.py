@@ -9,7 +9,7 @@ from dataclasses import dataclass, replace
 from typing import Iterator
 
 import checker
-from checker import AND, ATOM, AU, AX, EU, EX, NOT
+from checker import ALL_ALONG, ATOM, AX, EX, NOT, WITH_B
 from generate import Line, Picture, written
 
 
@@ -172,11 +172,12 @@ def damages(rng: random.Random, job: Picture) -> Iterator[Damage]:
 def bad_rules(rng: random.Random, k: int) -> list[Line]:
     """Lines that question 8 turns away at subformula k."""
     less = rng.randrange(k) if k else 0
-    wrong: list[Line] = [(kind, 0, 0) for kind in (0, 8, 9, 255, 257, 99_999)]
+    kinds = (0, 10, 11, 255, 256, 257, 264, 265, 99_999)
+    wrong: list[Line] = [(kind, 0, 0) for kind in kinds]
     wrong += [(ATOM, 16, 0), (ATOM, 99_999, 0), (ATOM, 0, 1), (ATOM, 15, 99_999)]
-    for kind in (NOT, AX, EX):
+    for kind in (NOT, AX, EX, *ALL_ALONG):
         wrong += [(kind, k, 0), (kind, k + 1, 0), (kind, less, 1), (kind, 99_999, 0)]
-    for kind in (AND, AU, EU):
+    for kind in WITH_B:
         wrong += [(kind, k, less), (kind, less, k), (kind, less, 99_999)]
     return wrong
 
@@ -217,7 +218,7 @@ def scribbles(rng: random.Random, job: Picture, count: int) -> Iterator[bytes]:
     """Texts with several fields changed, so that the order of the questions
     and of the lines decides what is reported."""
     sizes = checker.Sizes(*job.lines()[0])
-    numbers = [0, 1, 2, 7, 8, 15, 16, 255, 256, 65_535, 65_536, 99_999]
+    numbers = [0, 1, 2, 7, 8, 9, 10, 15, 16, 255, 256, 65_535, 65_536, 99_999]
     for _ in range(count):
         text = job.text()
         for _ in range(rng.randint(2, 4)):
@@ -241,7 +242,7 @@ def noise(rng: random.Random, count: int) -> Iterator[bytes]:
         yield first + bytes(rng.choices(b"  01\n", k=length))
         yield first + written(
             [tuple(rng.choices(range(4), k=2)) for _ in range(states + edges)]
-            + [tuple(rng.choices(range(8), k=3)) for _ in range(formulas)]
+            + [tuple(rng.choices(range(11), k=3)) for _ in range(formulas)]
         )
 
 

@@ -12,7 +12,7 @@ import random
 from dataclasses import dataclass, replace
 from typing import Iterator
 
-from checker import AND, ATOM, AU, AX, EU, EX, NOT
+from checker import ALL_ALONG, AND, ATOM, AU, AX, EU, EX, NOT, SETS, UNTILS, WITH_B
 
 Edge = tuple[int, int]
 Line = tuple[int, ...]
@@ -119,6 +119,12 @@ def labels(rng: random.Random, size: int) -> list[int]:
     return [rng.randrange(bits) for _ in range(size)]
 
 
+def about(kind: int, before: int, other: int) -> Rule:
+    """A line about the line before, with another as left operand where the kind
+    has two."""
+    return (kind, other, before) if kind in WITH_B else (kind, before, 0)
+
+
 def rules(rng: random.Random, count: int) -> list[Rule]:
     """Subformulas; operands tend to be late ones, so that formulas nest."""
 
@@ -127,12 +133,11 @@ def rules(rng: random.Random, count: int) -> list[Rule]:
 
     lines: list[Rule] = []
     for k in range(count):
-        kind = rng.choice([ATOM, NOT, AND, AX, EX, AU, AU, EU, EU]) if k else ATOM
+        kind = rng.choice([ATOM, NOT, AND, AX, EX, *2 * SETS]) if k else ATOM
         if kind == ATOM:
             lines.append((ATOM, rng.choice([0, 0, 0, 1, 1, 2, 3, 15]), 0))
         else:
-            b = operand(k) if kind in (AND, AU, EU) else 0
-            lines.append((kind, operand(k), b))
+            lines.append((kind, operand(k), operand(k) if kind in WITH_B else 0))
     return lines
 
 
@@ -169,8 +174,9 @@ def picture(
 def tangled(rng: random.Random, states: int, formulas: int, nodes: int) -> Picture:
     """A ring over nodes, of at most these sizes (at least 2, 3 and 2), where
     atom 0 holds and atom 1 does not, but for a state or two.  Each subformula
-    is about the line before it, so untils stay open one after the other, and
-    only close can fill them."""
+    is about the line before it, mostly untils where that one does not hold and
+    EG and AG where it does: they stay open one after the other, and only close
+    can fill them."""
     states = rng.randint(2, states)
     nodes = rng.randint(2, nodes)
     edges = set(ring(states))
@@ -182,13 +188,12 @@ def tangled(rng: random.Random, states: int, formulas: int, nodes: int) -> Pictu
     for _ in range(rng.choice([0, 0, 0, 1, 2])):
         label[rng.randrange(states)] = rng.choice([0, 2, 3])
     lines: list[Rule] = [(ATOM, 0, 0), (ATOM, 1, 0)]
+    holds = False  # the line before, at most states
     for k in range(2, rng.randint(3, formulas)):
-        kind = rng.choice([NOT, NOT, AND, AX, EX, AU, AU, AU, EU, EU, EU])
-        other = rng.choice([0, 0, rng.randrange(k)])
-        if kind in (AND, AU, EU):
-            lines.append((kind, other, k - 1))
-        else:
-            lines.append((kind, k - 1, 0))
+        left_open = ALL_ALONG if holds else UNTILS
+        kind = rng.choice([NOT, NOT, AND, AX, EX, *SETS, *2 * left_open])
+        holds ^= kind == NOT
+        lines.append(about(kind, k - 1, rng.choice([0, 0, rng.randrange(k)])))
     return Picture(nodes, owner, label, sorted(edges), lines)
 
 
@@ -301,24 +306,26 @@ def heavy(size: int, hanging: int, formulas: int, nodes: int) -> Picture:
 
 
 def cut_chain(kind: int, size: int, formulas: int) -> Picture:
-    """A chain cut at every edge, and the same until again and again: its truth
-    comes from the end by one state in a round."""
-    lines = [(ATOM, 0, 0), (ATOM, 1, 0)] + [(kind, 0, 1)] * (formulas - 2)
+    """A chain cut at every edge, atom 0 up to the last state and atom 1 there,
+    and the same line again and again: the truth of an until of the two, or the
+    falsity of EG or AG of atom 0, comes from the end by one state in a round."""
+    lines = [(ATOM, 0, 0), (ATOM, 1, 0)]
+    lines += [(kind, 0, 1 if kind in WITH_B else 0)] * (formulas - 2)
     owner = [s % 2 for s in range(size)]
-    return Picture(2, owner, [1] * (size - 1) + [3], chain(size), lines)
+    return Picture(2, owner, [1] * (size - 1) + [2], chain(size), lines)
 
 
 def cut_ring(kind: int, size: int, formulas: int, negated: bool) -> Picture:
     """A ring cut at every edge, and untils of atom 0, which holds, up to the
-    line before, atom 1, which does not, at first: a close for each, or for
-    every second where each is negated."""
+    line before, atom 1, which does not, at first; or EG or AG of the line
+    before, atom 0 at first: a close for each, or for every second where each is
+    negated."""
     lines = [(ATOM, 0, 0), (ATOM, 1, 0)]
+    if kind in ALL_ALONG:
+        lines.reverse()
     while len(lines) < formulas:
-        before = len(lines) - 1
-        if negated and lines[before][0] == kind:
-            lines.append((NOT, before, 0))
-        else:
-            lines.append((kind, 0, before))
+        again = negated and lines[-1][0] == kind
+        lines.append(about(NOT if again else kind, len(lines) - 1, 0))
     return Picture(8, [s % 8 for s in range(size)], [1] * size, ring(size), lines)
 
 
@@ -345,7 +352,8 @@ def dear() -> Iterator[tuple[str, Picture, Line]]:
     ):
         name = f"heavy {hanging} {nodes}"
         yield name, heavy(256, hanging, 32, nodes), (1, rounds, cells)
-    for kind in (AU, EU):
-        yield f"chain {kind}", cut_chain(kind, 256, 32), (1, 257, 16352)
-        yield f"ring {kind}", cut_ring(kind, 256, 32, False), (0, 32, 16384)
-    yield "ring, negated", cut_ring(AU, 256, 32, True), (1, 25, 16384)
+    for kind in SETS:
+        until = kind in UNTILS
+        yield f"chain {kind}", cut_chain(kind, 256, 32), (until, 257, 16352)
+        yield f"ring {kind}", cut_ring(kind, 256, 32, False), (not until, 32, 16384)
+        yield f"ring {kind}, negated", cut_ring(kind, 256, 32, True), (until, 25, 16384)

@@ -5,7 +5,8 @@
 Each mutant is a model, that of checker.py or that of rules.py, with one place
 read otherwise.  For each the cases are answered again and those that change are
 counted; a mutant that changes none is a gap in the cases.  Without options the
-cases are the gate's.
+cases are the gate's.  A mutant of truth on the uncut structure changes no answer:
+it has to differ from what finish fills, on as many jobs drawn besides.
 """
 
 from __future__ import annotations
@@ -13,52 +14,67 @@ from __future__ import annotations
 import argparse
 import itertools
 import pathlib
+import random
 import sys
 import types
-from typing import TYPE_CHECKING, Iterable
+from typing import TYPE_CHECKING, Iterable, Iterator
 
 import checker
+import generate
 import rules
 
 if TYPE_CHECKING:
     import trials
 
-MUTANTS: list[tuple[str, str, str]] = [
-    ("restriction of the largest set by subtraction afterwards",
-     "largest = already.union(s for s in owned if s not in smallest and b[s] == FALSE)",
-     "largest = already.union(s for s in owned if b[s] == FALSE)"),
-    ("no restriction of the smallest set while it grows",
-     "            and own[s] != FALSE\n            and (\n", "            and (\n"),
+SET_MUTANTS: list[tuple[str, ...]] = [
+    ("the largest set restricted by subtraction afterwards",
+     "if s not in smallest and start[s] == FALSE)", "if start[s] == FALSE)",
+     "return smallest, largest\n", "return smallest, largest - smallest\n"),
+    ("a cell that could join both joins the largest",
+     "if s not in smallest and start[s] == FALSE)", "if start[s] == FALSE)",
+     "return smallest, largest\n", "return smallest - largest, largest\n"),
+    ("no restriction of the smallest set while it grows", "            and own[s] != other\n", ""),
     ("both sets without any restriction",
-     "    return smallest, largest\n",
-     "    grown = {s for s in job.fragment[node] if own[s] == TRUE}\n"
-     "    for _ in owned:\n"
-     "        grown |= {s for s in owned if b[s] == TRUE or (a[s] == TRUE and true(t in grown for t in job.successors[s]))}\n"
-     "    first = already.union(s for s in owned if b[s] == FALSE)\n"
-     "    for _ in owned:\n"
-     "        first -= {s for s in first if s not in already and a[s] != FALSE and not false(t in first for t in job.successors[s])}\n"
-     "    return grown, first - grown\n"),
-    ("already true cells do not start the smallest set",
-     "smallest = {s for s in job.fragment[node] if own[s] == TRUE}",
-     "smallest = {s for s in job.border[node] if own[s] == TRUE}"),
-    ("already false cells must still be backed",
+     "            and own[s] != other\n", "",
+     "if s not in smallest and start[s] == FALSE)", "if start[s] == FALSE)",
+     "return smallest, largest\n", "return smallest, largest - smallest\n"),
+    ("cells already filled do not start the smallest set",
+     "smallest = {s for s in job.fragment[node] if own[s] == value}",
+     "smallest = {s for s in job.border[node] if own[s] == value}"),
+    ("cells already filled must still be backed in the largest set",
      "            if s not in already\n", "            if s in owned\n"),
-    ("border states do not count by their own true",
-     "smallest = {s for s in job.fragment[node] if own[s] == TRUE}",
-     "smallest = {s for s in owned if own[s] == TRUE}"),
-    ("border states do not count by their own false",
-     "already = {s for s in job.fragment[node] if own[s] == FALSE}",
-     "already = {s for s in owned if own[s] == FALSE}"),
-    ("b read at border states (true)",
-     "smallest = {s for s in job.fragment[node] if own[s] == TRUE}",
-     "smallest = {s for s in job.fragment[node] if own[s] == TRUE or (b[s] == TRUE and own[s] != FALSE)}"),
-    ("falsity grown from nothing",
+    ("border states not in the smallest set by their own value",
+     "smallest = {s for s in job.fragment[node] if own[s] == value}",
+     "smallest = {s for s in owned if own[s] == value}"),
+    ("border states not in the largest set by their own value",
+     "already = {s for s in job.fragment[node] if own[s] == other}",
+     "already = {s for s in owned if own[s] == other}"),
+    ("operands read at border states",
+     "smallest = {s for s in job.fragment[node] if own[s] == value}",
+     "smallest = {s for s in job.fragment[node] if own[s] == value or (start[s] == TRUE and own[s] != other)}"),
+    ("the largest set grown from nothing",
      "    return smallest, largest\n",
      "    grown = set(already)\n"
      "    for _ in owned:\n"
-     "        grown |= {s for s in owned if s in largest and (a[s] == FALSE or false(t in grown for t in job.successors[s]))}\n"
+     "        grown |= {s for s in largest if grow[s] == FALSE or dual(t in grown for t in job.successors[s])}\n"
      "    return smallest, grown\n"),
-    ("A and E untils exchanged", "(all, any) if kind == AU", "(all, any) if kind == EU"),
+    ("the largest set where an operand is empty", "and start[s] == FALSE)", "and start[s] != TRUE)"),
+    ("both sets by one quantifier", "dual = any if quantifier is all else all", "dual = quantifier"),
+]  # fmt: skip
+"""Wrong readings of the sets of a step, each of untils alone and of EG and AG
+alone.
+
+The largest set taken first, without the cells of the other value, and winning
+over the smallest is no mutant: once filled cells are kept out of the other set
+the two cannot meet, for the first cell to join the smallest that is in the
+largest too would have a successor that joined before it and is in both."""
+
+MUTANTS: list[tuple[str, ...]] = [
+    ("A and E untils exchanged", "all if kind == AU", "all if kind == EU"),
+    ("EG and AG exchanged", "all if kind == EG", "all if kind == AG"),
+    ("EG, AG: falsity grows only where a is true", "[TRUE] * len(a)", "a"),
+    ("EG, AG: the opposite of an empty a is true",
+     "a_false = [rule_of_not(cell) for cell in a]", "a_false = [TRUE if cell == EMPTY else rule_of_not(cell) for cell in a]"),
     ("AX and EX exchanged", "(all, any) if kind == AX", "(all, any) if kind == EX"),
     ("not of empty is true", "EMPTY: EMPTY}[a]", "EMPTY: TRUE}[a]"),
     ("false and empty stays empty", "if a == FALSE or b == FALSE:", "if a == FALSE and b == FALSE:"),
@@ -89,9 +105,12 @@ MUTANTS: list[tuple[str, str, str]] = [
      "        for node in range(job.sizes.nodes)\n        for s in job.fragment[node]\n    )",
      "        for node in range(job.sizes.nodes)\n        for s in job.owned[node]\n    )"),
     ("close fills every empty subformula",
-     "        fill(table, job.cell(node, s, k), FALSE)\n        for node in range(job.sizes.nodes)\n        for s in job.fragment[node]\n    )",
-     "        fill(table, job.cell(node, s, j), FALSE)\n        for node in range(job.sizes.nodes)\n        for s in job.fragment[node]\n        for j in range(k, job.sizes.formulas)\n    )"),
-    ("close fills 1", "fill(table, job.cell(node, s, k), FALSE)", "fill(table, job.cell(node, s, k), TRUE)"),
+     "        fill(table, job.cell(node, s, k), value)\n        for node in range(job.sizes.nodes)\n        for s in job.fragment[node]\n    )",
+     "        fill(table, job.cell(node, s, j), value)\n        for node in range(job.sizes.nodes)\n        for s in job.fragment[node]\n        for j in range(k, job.sizes.formulas)\n    )"),
+    ("close fills 1 for untils", "value = TRUE if job.rules[k].kind in ALL_ALONG else FALSE", "value = TRUE"),
+    ("close fills 0 for EG and AG", "value = TRUE if job.rules[k].kind in ALL_ALONG else FALSE", "value = FALSE"),
+    ("close fills 0 for EG", "kind in ALL_ALONG else FALSE", "kind == AG else FALSE"),
+    ("close fills 0 for AG", "kind in ALL_ALONG else FALSE", "kind == EG else FALSE"),
     ("a round closes even when it has filled", "        if filled == 0:\n            filled += self.closing()", "        filled += self.closing()"),
     ("a round copies before it steps",
      "        filled = self.steps()\n        filled += self.copy()", "        filled = self.copy()\n        filled += self.steps()"),
@@ -139,7 +158,15 @@ MUTANTS: list[tuple[str, str, str]] = [
     ("accept fills any state of the fragment", "ask(state in job.border[node], 16)", "ask(state in job.fragment[node], 16)"),
     ("close: 20 before 19", "    ask(settled(job, table), 19)\n    k = lowest_open(job, table)\n    ask(k is not None, 20)\n",
      "    k = lowest_open(job, table)\n    ask(k is not None, 20)\n    ask(settled(job, table), 19)\n"),
-    ("kinds 6 and 7 only are temporal", "TEMPORAL = (AX, EX, AU, EU)", "TEMPORAL = (AU, EU)"),
+    ("kinds 6 to 9 only are temporal", "TEMPORAL = (AX, EX, *SETS)", "TEMPORAL = SETS"),
+    ("EG and AG not temporal", "TEMPORAL = (AX, EX, *SETS)", "TEMPORAL = (AX, EX, *UNTILS)"),
+    ("EG not temporal", "TEMPORAL = (AX, EX, *SETS)", "TEMPORAL = (AX, EX, *UNTILS, AG)"),
+    ("AG not temporal", "TEMPORAL = (AX, EX, *SETS)", "TEMPORAL = (AX, EX, *UNTILS, EG)"),
+    ("offer: EG and AG not temporal", "TEMPORAL, 13)\n    value", "TEMPORAL[:4], 13)\n    value"),
+    ("accept: EG and AG not temporal", "TEMPORAL, 13)\n    ask(value", "TEMPORAL[:4], 13)\n    ask(value"),
+    ("EG and AG not copied", "if rule.kind in TEMPORAL]", "if rule.kind in TEMPORAL[:4]]"),
+    ("settled: copies of EG and AG not asked", "return not copies(job, table, job.temporal()) and all(",
+     "return not copies(job, table, [k for k in job.temporal() if job.rules[k].kind not in ALL_ALONG]) and all("),
     ("fields with leading zeros", 'rb" *(0|[1-9][0-9]*)"', 'rb" *[0-9]+"'),
     ("a field of spaces", 'rb" *(0|[1-9][0-9]*)"', 'rb" *(|0|[1-9][0-9]*)"'),
     ("byte 10 not asked", "or part[-1] != 10", ""),
@@ -154,7 +181,12 @@ MUTANTS: list[tuple[str, str, str]] = [
     ("8: atom 16", "a <= 15 if", "a <= 16 if"),
     ("8: a = k", "else a < k)", "else a <= k)"),
     ("8: b = k", "(b < k if", "(b <= k if"),
-    ("8: kind 8", "1 <= kind <= 7", "1 <= kind <= 8"),
+    ("8: kind 0", "kind in KINDS", "kind in range(0, 10)"),
+    ("8: kind 10", "kind in KINDS", "kind in range(1, 11)"),
+    ("8: kinds 8 and 9 refused", "kind in KINDS", "kind in range(1, 8)"),
+    ("8: kind 9 refused", "kind in KINDS", "kind in range(1, 9)"),
+    ("8: kind 8 with a b", "else b == 0)", "else b == 0 or kind == EG)"),
+    ("8: kind 9 with a b", "else b == 0)", "else b == 0 or kind == AG)"),
     ("line asks all of 1 to 8", "start, count = place(sizes(text), number)", "start, count = place(parse(text).sizes, number)"),
     ("line with its last byte", "return text[start : start + 5 * count]\n", "return text[start : start + 5 * count + 1]\n"),
     ("line stops at the first byte 10", "return text[start : start + 5 * count]\n", "return text[start : start + 5 * count].split(b'\\n')[0]\n"),
@@ -163,7 +195,26 @@ MUTANTS: list[tuple[str, str, str]] = [
 ]  # fmt: skip
 
 
-RULE_MUTANTS: list[tuple[str, str, str]] = [
+TRUTH_MUTANTS: list[tuple[str, ...]] = [
+    ("truth: AX and EX exchanged", "elif kind == AX:\n            here", "elif kind == EX:\n            here",
+     "elif kind == EX:\n            here = {s for s in every if not", "elif kind == AX:\n            here = {s for s in every if not"),
+    ("truth: E(a U b) without a", "reaching(job, holds[b], holds[a])", "reaching(job, holds[b], every)"),
+    ("truth: A(a U b) where b never comes", "(without - holds[a]) | on_cycles(job, without)", "without - holds[a]"),
+    ("truth: EG and AG exchanged", "elif kind == EG:\n            # A walk", "elif kind == AG:\n            # A walk",
+     "elif kind == AG:\n            here", "elif kind == EG:\n            here"),
+    ("truth: EG a on a cycle with other states", "on_cycles(job, holds[a])", "on_cycles(job, every) & holds[a]"),
+    ("truth: EG a on the cycle alone", "reaching(job, on_cycles(job, holds[a]), holds[a])", "on_cycles(job, holds[a])"),
+    ("truth: EG a at the cycle, whatever comes before", "on_cycles(job, holds[a]), holds[a])", "on_cycles(job, holds[a]), every)"),
+    ("truth: EG a where a may end", "reaching(job, on_cycles(job, holds[a]), holds[a])", "holds[a]"),
+    ("truth: AG a here and at the successors", "every - reaching(job, every - holds[a], every)",
+     "{s for s in holds[a] if holds[a].issuperset(job.successors[s])}"),
+    ("truth: AG a at all other states", "every - reaching(job, every - holds[a], every)",
+     "every - (reaching(job, every - holds[a], every) - (every - holds[a]))"),
+]  # fmt: skip
+"""Wrong readings of truth on the uncut structure."""
+
+
+RULE_MUTANTS: list[tuple[str, ...]] = [
     # The grammar.
     ("=> groups to the left", '("rule", "either => rule")', '("rule", "rule => either")'),
     ("& groups to the right", '("both", "both & prefixed")', '("both", "prefixed & both")'),
@@ -190,6 +241,14 @@ RULE_MUTANTS: list[tuple[str, str, str]] = [
     ("AX binds weaker than &",
      '("either", "both"),\n        ("both", "both & prefixed"),\n        ("both", "prefixed"),\n        ("prefixed", "! prefixed"),\n        ("prefixed", "AX prefixed")',
      '("either", "next"),\n        ("next", "AX next"),\n        ("next", "both"),\n        ("both", "both & prefixed"),\n        ("both", "prefixed"),\n        ("prefixed", "! prefixed")'),
+    ("EG binds weaker than &",
+     '("either", "both"),\n        ("both", "both & prefixed"),\n        ("both", "prefixed"),\n',
+     '("either", "along"),\n        ("along", "EG along"),\n        ("along", "both"),\n        ("both", "both & prefixed"),\n        ("both", "prefixed"),\n',
+     '        ("prefixed", "EG prefixed"),\n', ""),
+    ("AG takes all that follows", '("prefixed", "AG prefixed")', '("rule", "AG rule")'),
+    ("EG only before a closed form", '"EG prefixed"', '"EG closed"'),
+    ("AG needs brackets", '"AG prefixed"', '"AG ( rule )"'),
+    ("EG[f] let by", '("prefixed", "AG prefixed"),', '("prefixed", "AG prefixed"),\n        ("prefixed", "EG [ rule ]"),'),
     ("! takes all that follows", '("prefixed", "! prefixed")', '("rule", "! rule")'),
     ("EX takes all that follows", '("prefixed", "EX prefixed")', '("rule", "EX rule")'),
     ("! only before a closed form", '"! prefixed"', '"! closed"'),
@@ -206,8 +265,10 @@ RULE_MUTANTS: list[tuple[str, str, str]] = [
     ("(f] let by", '("closed", "( rule )"),', '("closed", "( rule )"),\n        ("closed", "( rule ]"),'),
     ("f U g let by, without A or E", '("closed", "( rule )"),', '("closed", "( rule )"),\n        ("closed", "( rule U rule )"),'),
     ("() let by", '("closed", "( rule )"),', '("closed", "( rule )"),\n        ("closed", "( )"),'),
-    ("AG let by", '("prefixed", "EX prefixed"),', '("prefixed", "EX prefixed"),\n        ("prefixed", "AG prefixed"),'),
-    ("EG let by", '("prefixed", "EX prefixed"),', '("prefixed", "EX prefixed"),\n        ("prefixed", "EG prefixed"),'),
+    ("AF let by", '("prefixed", "EX prefixed"),', '("prefixed", "EX prefixed"),\n        ("prefixed", "AF prefixed"),'),
+    ("EF let by", '("prefixed", "EX prefixed"),', '("prefixed", "EX prefixed"),\n        ("prefixed", "EF prefixed"),'),
+    ("EG not let by", '        ("prefixed", "EG prefixed"),\n', ""),
+    ("AG not let by", '        ("prefixed", "AG prefixed"),\n', ""),
     ("&& let by", '("both", "prefixed"),', '("both", "prefixed"),\n        ("both", "both & & prefixed"),'),
     ("what follows a whole rule let by",
      "        if action is None:\n            return None\n        states.append(action)",
@@ -224,6 +285,8 @@ RULE_MUTANTS: list[tuple[str, str, str]] = [
      "    reading = tree(text)\n", "    if not text.strip(b' '):\n        return [0, 0, 0], buffer\n    reading = tree(text)\n"),
     # The tokens.
     ("AXp0 let by", 'rb"[A-Za-z0-9]+|=>|[^ ]"', 'rb"[AE]X|[A-Za-z0-9]+|=>|[^ ]"'),
+    ("EGp0 let by", 'rb"[A-Za-z0-9]+|=>|[^ ]"', 'rb"EG|[A-Za-z0-9]+|=>|[^ ]"'),
+    ("AGp0 let by", 'rb"[A-Za-z0-9]+|=>|[^ ]"', 'rb"AG|[A-Za-z0-9]+|=>|[^ ]"'),
     ("U run together with its operands let by", 'rb"[A-Za-z0-9]+|=>|[^ ]"', 'rb"[A-TV-Za-z0-9]+|U|=>|[^ ]"'),
     ("an atom run together with U let by", 'rb"[A-Za-z0-9]+|=>|[^ ]"', 'rb"p[0-9]+|[A-Za-z0-9]+|=>|[^ ]"'),
     ("a space needed between any two tokens", 'rb"[A-Za-z0-9]+|=>|[^ ]"', 'rb"[^ ]+"'),
@@ -231,6 +294,7 @@ RULE_MUTANTS: list[tuple[str, str, str]] = [
     ("A and [ are one token", 'rb"[A-Za-z0-9]+|=>|[^ ]"', 'rb"[AE] |[A-Za-z0-9]+|=>|[^ ]"'),
     ("= > let by", "WORDS.findall(text)", "WORDS.findall(re.sub(b'= +>', b'=>', text))"),
     ("A X let by", "WORDS.findall(text)", "WORDS.findall(re.sub(b'([AE]) +X', rb'\\1X', text))"),
+    ("A G let by", "WORDS.findall(text)", "WORDS.findall(re.sub(b'([AE]) +G', rb'\\1G', text))"),
     ("p 0 let by", "WORDS.findall(text)", "WORDS.findall(re.sub(b'p +', b'p', text))"),
     ("-> let by", "WORDS.findall(text)", "WORDS.findall(text.replace(b'->', b'=>'))"),
     ("p16 let by", 'rb"p([0-9]|1[0-5])"', 'rb"p([0-9]|1[0-6])"'),
@@ -302,6 +366,10 @@ RULE_MUTANTS: list[tuple[str, str, str]] = [
     ("subformulas counted from 1", "Rule(KINDS[tree[0]], a, b)", "Rule(KINDS[tree[0]], a + 1, b + 1 if len(tree) == 3 else 0)"),
     ("AX and EX exchanged", '"AX": AX, "EX": EX', '"AX": EX, "EX": AX'),
     ("A and E exchanged", '"A": AU, "E": EU', '"A": EU, "E": AU'),
+    ("EG read as AG, AG as EG", '"EG": EG, "AG": AG', '"EG": AG, "AG": EG'),
+    ("EG written as kind 9", '"EG": EG', '"EG": AG'),
+    ("AG written as kind 8", '"AG": AG', '"AG": EG'),
+    ("EG and AG written as AX and EX", '"EG": EG, "AG": AG', '"EG": EX, "AG": AX'),
     # The questions and the answer.
     ("512 bytes refused", "LONGEST = 512", "LONGEST = 511"),
     ("513 bytes let by", "LONGEST = 512", "LONGEST = 513"),
@@ -343,21 +411,40 @@ RULE_MUTANTS: list[tuple[str, str, str]] = [
 """Wrong readings of rule text."""
 
 
-def module(source: str, name: str, old: str, new: str) -> types.ModuleType:
-    """A model with one place of its source written otherwise."""
-    assert source.count(old) == 1, (name, source.count(old))
+def module(model: types.ModuleType, name: str, *places: str) -> types.ModuleType:
+    """A model with places of its source written otherwise: each as it is, and as
+    it becomes."""
+    source = pathlib.Path(model.__file__).read_text()
+    for old, new in zip(places[::2], places[1::2]):
+        assert source.count(old) == 1, (name, source.count(old))
+        source = source.replace(old, new)
     made = types.ModuleType("mutant")
     sys.modules["mutant"] = made
-    exec(compile(source.replace(old, new), "mutant", "exec"), made.__dict__)
+    exec(compile(source, "mutant", "exec"), made.__dict__)
     return made
 
 
 def modules(
-    model: types.ModuleType, mutants: list[tuple[str, str, str]]
+    model: types.ModuleType, mutants: list[tuple[str, ...]]
 ) -> dict[str, types.ModuleType]:
     """The mutants of a model, by name."""
-    source = pathlib.Path(model.__file__).read_text()
-    return {mutant[0]: module(source, *mutant) for mutant in mutants}
+    return {mutant[0]: module(model, *mutant) for mutant in mutants}
+
+
+def set_modules() -> Iterator[tuple[str, types.ModuleType]]:
+    """The mutants of the sets, by name: each of the kinds alone whose smallest
+    set has cells of one value."""
+    for mutant in SET_MUTANTS:
+        for kinds, value in (("untils", checker.TRUE), ("EG, AG", checker.FALSE)):
+            made = module(checker, *mutant)
+            wrong = made.rule_of_sets
+
+            def sets(job, node, own, rule, wrong=wrong, value=value):
+                found = wrong if rule.value == value else checker.rule_of_sets
+                return found(job, node, own, rule)
+
+            made.rule_of_sets = sets
+            yield f"{kinds}: {mutant[0]}", made
 
 
 def answers(model: types.ModuleType, trial: trials.Trial) -> list[object]:
@@ -375,23 +462,29 @@ def answers(model: types.ModuleType, trial: trials.Trial) -> list[object]:
     return said
 
 
-MODELS = modules(checker, MUTANTS)
+SET_MODELS = dict(set_modules())
+MODELS = SET_MODELS | modules(checker, MUTANTS)
+TRUTH_MODELS = modules(checker, TRUTH_MUTANTS)
 RULE_MODELS = modules(rules, RULE_MUTANTS)
 """The mutants as models."""
-
-OF_SETS = set(list(MODELS)[:9])
-"""The mutants about the sets of an until.
-
-The largest set taken first, without the cells already true, and winning over
-the smallest is no mutant: once filled cells are kept out of the other set the
-two cannot meet, for the first cell to join the smallest that is in the largest
-too would have a successor that joined before it and is in both."""
 
 
 def noticed(trial: trials.Trial, names: Iterable[str]) -> list[str]:
     """Those of the mutants that answer a case otherwise than the model."""
     right = answers(checker, trial)
     return [name for name in names if answers(MODELS[name], trial) != right]
+
+
+def truth_noticed(text: bytes) -> list[str]:
+    """The mutants of truth that differ somewhere from what finish fills."""
+    job = checker.parse(text)
+    _, table = checker.finish(text, bytes([checker.EMPTY]) * job.size())
+    states, formulas = range(job.sizes.states), range(job.sizes.formulas)
+    holds = [
+        {s for s in states if table[checker.owners_cell(job, s, k)] == checker.TRUE}
+        for k in formulas
+    ]
+    return [name for name, model in TRUTH_MODELS.items() if model.truths(job) != holds]
 
 
 def rule_answer(model: types.ModuleType, text: bytes, buffer: bytes) -> object:
@@ -425,6 +518,11 @@ def counts(drawn: list[trials.Trial]) -> dict[str, int]:
     return tally(MODELS, (noticed(trial, MODELS) for trial in drawn))
 
 
+def truth_counts(texts: Iterable[bytes]) -> dict[str, int]:
+    """How many of the jobs notice each mutant of truth."""
+    return tally(TRUTH_MODELS, map(truth_noticed, texts))
+
+
 def rule_counts(cases: Iterable[tuple[bytes, bytes]]) -> dict[str, int]:
     """How many of the rule texts, with their buffers, notice each mutant."""
     return tally(RULE_MODELS, (rule_noticed(*case) for case in cases))
@@ -451,6 +549,9 @@ def main() -> int:
     drawn = trials.trials(chosen.seed, chosen.count)
     texts = list(rule_texts.chosen())
     unnoticed = show(counts(drawn), len(drawn))
+    rng = random.Random(chosen.seed)
+    jobs = [generate.picture(rng).text() for _ in range(chosen.count)]
+    unnoticed += show(truth_counts(jobs), len(jobs))
     unnoticed += show(rule_counts(texts), len(texts))
     return 1 if unnoticed else 0
 

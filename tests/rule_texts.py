@@ -15,7 +15,7 @@ from rules import LONGEST, ROOM, Tree
 
 Whole = TypeVar("Whole", bytes, list[str])
 
-STRENGTH = {"!": 1, "AX": 1, "EX": 1, "&": 2, "|": 3, "=>": 4}
+STRENGTH = {"!": 1, "AX": 1, "EX": 1, "EG": 1, "AG": 1, "&": 2, "|": 3, "=>": 4}
 """How weakly a word binds; atoms and closed forms, 0, bind tightest."""
 
 TO_THE_RIGHT = ("=>",)
@@ -26,7 +26,7 @@ BETWEEN = [word for word, strength in STRENGTH.items() if strength > 1]
 UNTILS = ["A", "E"]
 ATOMS = [f"p{j}" for j in range(16)]
 TOKENS = [*ATOMS, *STRENGTH, *UNTILS, "U", "[", "]", "(", ")"]
-"""All 29."""
+"""All 31."""
 
 
 class Told(NamedTuple):
@@ -152,6 +152,24 @@ ACCEPTED = [
     Told(b"A[E[p0 U p1]U A[p1 U p0]]", 0, 5),
     Told(b"AX A[p0 U p0]", 0, 3),
     Told(b"(p0=>p1)&(p0=>p1)", 0, 6),
+    Told(b"EG p0", 0, 2),
+    Told(b"AG p0", 0, 2),
+    Told(b"EG!p0", 0, 3),
+    Told(b"!EG p0", 0, 3),
+    Told(b"AG(p0)", 0, 2),
+    Told(b"AG ( p0 )", 0, 2),
+    Told(b"AG EG p0", 0, 3),
+    Told(b"EG EG EG p0", 0, 4),
+    Told(b"AX AG EX EG p0", 0, 5),
+    Told(b"AG p0&p1", 0, 4),
+    Told(b"AG(p0&p1)", 0, 4),
+    Told(b"EG p0 & EG p0", 0, 3),
+    Told(b"EG p0|AG p0", 0, 7),
+    Told(b"AG(p0=>EG p0)", 0, 6),
+    Told(b"AG p0=>EG p0", 0, 6),
+    Told(b"A[EG p0 U AG p1]", 0, 5),
+    Told(b"EG A[p0 U p1]", 0, 4),
+    Told(b"AG E[!p0 U p0]", 0, 4),
 ]
 """Texts in the grammar."""
 
@@ -160,7 +178,7 @@ ACCEPTED = [
 # Every short text
 # --------------------------------------------------------------------------
 
-FEW = ["p0", "p15", "!", "AX", "&", "|", "=>", "A", "E", "U", "[", "]", "(", ")"]
+FEW = ["p0", "p15", "!", "AX", "EG", "&", "|", "=>", "A", "E", "U", "[", "]", "(", ")"]
 """Tokens that stand for all."""
 
 
@@ -181,7 +199,8 @@ def together(tokens: list[str]) -> bytes:
 
 REFUSED = [
     # Nothing, and parts of rules.
-    b"", b" ", b"!", b"AX", b"&", b"=>", b"A", b"U", b"()", b"A[]", b"A[U]",
+    b"", b" ", b"!", b"AX", b"EG", b"AG", b"&", b"=>", b"A", b"U", b"()", b"A[]",
+    b"A[U]", b"AG EG", b"AG &", b"AG()", b"p0 AG", b"p0 EG p1", b"AG => p0",
     b"p0 &", b"& p0", b"p0 | | p1", b"p0 => => p1", b"p0 => !", b"p0 ! p1", b"p0 !",
     b"A[p0 U]", b"A[U p0]", b"A[p0]", b"A[p0 p1]", b"A p0", b"A[p0 U p1", b"[p0]",
     b"[p0 U p1]", b"p0 U p1", b"(p0 U p1)", b"A(p0 U p1)", b"A[(p0 U p1)]",
@@ -194,22 +213,25 @@ REFUSED = [
     b"AXp0", b"EXp0", b"AXAX p0", b"AX AXp0", b"A[p0Up1]", b"A[p0U p1]",
     b"A[p0 Up1]", b"A[(p0)Up1]", b"p0p1", b"p0 p1", b"A X p0", b"E X p0", b"p 0",
     b"p1 5", b"p0AX", b"!pAX", b"AEX p0", b"AAX p0", b"AXEX p0", b"AU[p0 U p1]",
-    b"p0U", b"0", b"p", b"p0 & 1", b"AX0",
+    b"p0U", b"0", b"p", b"p0 & 1", b"AX0", b"EGp0", b"AGp0", b"EGEG p0", b"AGEG p0",
+    b"AG EGp0", b"AXEG p0", b"AXG p0", b"AEG p0", b"AGG p0", b"E G p0", b"A G p0",
+    b"EG0", b"p0EG", b"AGU p0", b"A[EGp0 U p1]", b"A[p0 UEG p1]",
     # Operators torn apart, and those of other languages.
     b"p0 = > p1", b"p0 = p1", b"p0 > p1", b"p0 >= p1", b"p0 ==> p1", b"p0 =>> p1",
     b"p0 -> p1", b"p0 <=> p1", b"p0 && p1", b"p0 || p1", b"~p0", b"p0 ^ p1",
     b"p0 + p1", b"p0 * p1", b"not p0", b"p0 and p1", b"p0 or p1", b"true", b"p0;",
     b"p0.", b"p0#", b"'p0'", b'"p0"', b"p0=>=>p1", b"p0&=>p1", b"p0!=p1",
     # Temporal words that rule text does not have.
-    b"AG p0", b"EG p0", b"AF p0", b"EF p0", b"F p0", b"G p0", b"X p0", b"AXX p0",
-    b"A[p0 R p1]", b"A[p0 W p1]", b"AX[p0]", b"A X[p0]", b"E p0", b"EE p0",
+    b"AF p0", b"EF p0", b"F p0", b"G p0", b"X p0", b"AXX p0", b"A[p0 R p1]",
+    b"A[p0 W p1]", b"A[G p0]", b"AX[p0]", b"A X[p0]", b"AG[p0]", b"EG[p0 U p1]",
+    b"E p0", b"EE p0", b"GE p0", b"GA p0",
     # Atoms that are none.
     b"p16", b"p17", b"p20", b"p99", b"p150", b"p256", b"p65536", b"p00", b"p01",
     b"p015", b"p000", b"p-1", b"p+1", b"p1.0", b"p1_0", b"p0x1", b"pp0", b"q0",
     b"p10p", b"p1p1", b"p\xb2", b"p\xd9\xa1",
     # Case.
     b"P0", b"ax p0", b"Ax p0", b"aX p0", b"ex p0", b"a[p0 U p1]", b"A[p0 u p1]",
-    b"e[p0 U p1]",
+    b"e[p0 U p1]", b"ag p0", b"Ag p0", b"aG p0", b"eg p0", b"Eg p0",
     # Bytes that are no spaces, and others that do not belong.
     b"\tp0", b"p0\t", b"p0\t&\tp1", b"AX\tp0", b"p0\r", b"p0 &\r p1", b"p0\n",
     b"p0\r\n", b"p0 &\n p1", b"AX\np0", b"\np0", b"\x0bp0", b"p0\x0c", b"\x00",
@@ -232,9 +254,13 @@ def changed(rng: random.Random, whole: Whole, new: Whole) -> Whole:
     return whole[:at] + rng.choice([rest[1:], swapped, new + rest[1:], new + rest])
 
 
+LETTERS = b" pAEXGU01!&|=>[]()"
+"""The bytes of tokens, most of them, and the space."""
+
+
 def edited(rng: random.Random, text: bytes) -> bytes:
     """The text with a byte changed."""
-    some = rng.choice([*b" pAEXU01!&|=>[]()", rng.randrange(256)])
+    some = rng.choice([*LETTERS, rng.randrange(256)])
     return changed(rng, text, bytes([some]))
 
 
@@ -252,7 +278,7 @@ def noise(rng: random.Random, count: int) -> Iterator[bytes]:
     """Any bytes, bytes of tokens, and any tokens."""
     for _ in range(count):
         yield rng.randbytes(rng.randrange(40))
-        yield bytes(rng.choices(b"p01!&|=>AEXU[]()  ", k=rng.randrange(12)))
+        yield bytes(rng.choices(b" " + LETTERS, k=rng.randrange(12)))
         yield scattered(rng, rng.choices(TOKENS, k=rng.randrange(9)))
 
 
@@ -300,6 +326,7 @@ def by_lines() -> Iterator[Told]:
     yield limited(b"p0&(" + chain("=>", 11) + b")&p0", 33)
     for before, behind, each, most in (
         ("!", "", 1, 510), ("AX ", "", 1, 170), ("EX(", ")", 1, 127),
+        ("EG ", "", 1, 170), ("AG(", ")", 1, 127),
         ("p0&(", ")", 1, 102), ("(", "=>p0)", 2, 85), ("A[p0 U ", "]", 1, 63),
         ("E[", " U p0]", 1, 63),
     ):  # fmt: skip
@@ -384,7 +411,9 @@ SHOWING = [
     # Prefixes, and what they take.
     b"!p0", b"! p0", b"!!p0", b"!!!p0", b"AX p0", b"EX p0", b"AX!p0", b"!AX p0",
     b"AX AX p0", b"EX EX(p0)", b"!p0&p1", b"!(p0&p1)", b"p0&!p1", b"AX p0&p1",
-    b"p0 & EX p1", b"EX p0|p1", b"!p0=>p1",
+    b"p0 & EX p1", b"EX p0|p1", b"!p0=>p1", b"EG p0", b"AG p0", b"EG!p0", b"!AG p0",
+    b"AG(p0)", b"AG EG p0", b"EG EG p0", b"EG p0&p1", b"p0&AG p1", b"AG p0|p1",
+    b"EG p0=>AG p0",
     # One operator, and how it groups.
     b"p0&p1", b"p1 & p0", b"p0&p0", b"p0|p1", b"p1|p0", b"p0|p0", b"p0=>p1",
     b"p0 => p0", b"p0&p1&p2", b"p0&(p1&p2)", b"p0|p1|p2", b"p0|(p1|p2)",
@@ -402,7 +431,8 @@ SHOWING = [
     # Not in the grammar.
     b"", b"  ", b"!", b"p0&", b"|p0", b"p0 p1", b"p0&&p1", b"p0!", b"()", b"(p0",
     b"p0)", b"(p0]", b"[p0]", b"(p0 U p1)", b"p0 U p1", b"A(p0 U p1)", b"A[p0 U p1",
-    b"A[p0 U p1 U p2]", b"A[p0]", b"A p0", b"AG p0", b"EG p0",
+    b"A[p0 U p1 U p2]", b"A[p0]", b"A p0", b"AF p0", b"EF p0", b"AG", b"EG[p0]",
+    b"EG[p0 U p1]", b"EGp0", b"AGp0", b"EGEG p0", b"AG AGp0", b"E G p0", b"A G p0",
     b"AXp0", b"EXp0", b"AX AXp0", b"A[p0Up1]", b"A[p0U p1]", b"A[p0 Up1]", b"A X p0",
     b"p 0", b"p0 = > p1", b"p0->p1", b"p0=p1", b"p", b"p16", b"p00", b"p01", b"P0",
     b"ax p0", b"A[p0 u p1]", b"AX\tp0", b"p0\t", b"p0&\np1", b"p0\n", b"p0\r", b"\0", b"p0\0",

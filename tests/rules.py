@@ -1,7 +1,7 @@
 """A model of rule text, written apart from the product.
 
-It follows request (i) of document 02 ("Rules typed as text") and nothing else.
-Names in quotes are that request's words.
+It follows requests (i) ("Rules typed as text") and, for `EG` and `AG`, (iii) of
+document 02 and nothing else.  Names in quotes are those requests' words.
 
 * `tree`: the one reading of a text.  The texts are read from the bottom up, by
   a table that is made of the grammar (SLR(1)); the table cannot be made where
@@ -20,9 +20,9 @@ from __future__ import annotations
 
 import re
 import sys
-from typing import Callable
 
-from checker import AND, ATOM, AU, AX, EU, EX, NOT, Answer, Job, Rule, ask, call
+from checker import AG, AND, ATOM, AU, AX, EG, EU, EX, NOT
+from checker import Answer, Job, Rule, ask, call
 from generate import written, written_line
 
 ROOM = 512
@@ -37,7 +37,7 @@ MOST = 32
 Tree = tuple
 """A word and its operands: ("p3",), ("!", f), ("=>", f, g), ("A", f, g)."""
 
-KINDS = {"!": NOT, "&": AND, "AX": AX, "EX": EX, "A": AU, "E": EU}
+KINDS = {"!": NOT, "&": AND, "AX": AX, "EX": EX, "A": AU, "E": EU, "EG": EG, "AG": AG}
 """The kind of the line that is a word's own."""
 
 
@@ -61,6 +61,8 @@ GRAMMAR: list[Production] = [
         ("prefixed", "! prefixed"),
         ("prefixed", "AX prefixed"),
         ("prefixed", "EX prefixed"),
+        ("prefixed", "EG prefixed"),
+        ("prefixed", "AG prefixed"),
         ("prefixed", "closed"),
         ("closed", "A [ rule U rule ]"),
         ("closed", "E [ rule U rule ]"),
@@ -70,7 +72,7 @@ GRAMMAR: list[Production] = [
 ]
 """ "Prefix `!`, `AX`, `EX` bind tightest.  Then come `&`, `|`, `=>`, weaker in
 this order; `&` and `|` group to the left, `=>` to the right.  `A[f U g]`,
-`E[f U g]` and `(f)` are closed forms." """
+`E[f U g]` and `(f)` are closed forms."  "`EG` and `AG` as prefixes like `AX`." """
 
 NAMES = {name for name, _ in GRAMMAR}
 
@@ -266,19 +268,25 @@ def rule(text: bytes, buffer: bytes) -> Answer:
 def holding(job: Job, tree: Tree) -> set[int]:
     """The states of the uncut structure where the rule holds."""
     every = set(range(job.sizes.states))
-
-    def before(all_or_some: Callable[..., bool], goal: set[int]) -> set[int]:
-        after = job.successors
-        return {s for s in every if all_or_some(t in goal for t in after[s])}
-
     word, *operands = tree
+
+    def before(goal: set[int]) -> set[int]:
+        """The states with all successors, or with some, in the goal."""
+        all_or_some = all if word[0] == "A" else any
+        return {s for s in every if all_or_some(t in goal for t in job.successors[s])}
+
     if not operands:
         return {s for s in every if job.label[s] >> int(word[1:]) & 1}
     f, *others = (holding(job, operand) for operand in operands)
     if word == "!":
         return every - f
     if word in ("AX", "EX"):
-        return before(all if word == "AX" else any, f)
+        return before(f)
+    if word in ("AG", "EG"):
+        found = f  # what holds for 0, 1, .. steps
+        for _ in every:
+            found = f & before(found)
+        return found
     (g,) = others
     if word == "&":
         return f & g
@@ -288,7 +296,7 @@ def holding(job: Job, tree: Tree) -> set[int]:
         return every - f | g
     found = g  # what holds within 0, 1, .. steps
     for _ in every:
-        found = found | f & before(all if word == "A" else any, found)
+        found = found | f & before(found)
     return found
 
 

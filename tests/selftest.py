@@ -3,11 +3,11 @@
     selftest.py [--seed N] [--count N]
 
 Demand 3 on random lists of calls, any tables, look without a node against look
-at the owner, the sets of an until against all sets, truth by a second definition
-on tiny jobs, finish by plain rounds, and every damaged text against what it was
-made for.  Rule text by a second way of reading, every short text among them,
-against what is told of it by hand, and the truth of a rule against that of its
-lines.
+at the owner, the sets of a step against all sets, truth by a second definition
+on tiny jobs, finish by plain rounds, EG and AG against what is worked out by
+hand, and every damaged text against what it was made for.  Rule text by a second
+way of reading, every short text among them, against what is told of it by hand,
+and the truth of a rule against that of its lines.
 """
 
 from __future__ import annotations
@@ -16,14 +16,15 @@ import argparse
 import itertools
 import pathlib
 import random
-from dataclasses import dataclass, field
+from dataclasses import dataclass, field, replace
 from functools import lru_cache
 from typing import Iterator
 
 import checker
 import rule_texts
 import rules
-from checker import AND, ATOM, AU, AX, EMPTY, EU, EX, NOT, Job
+from checker import AG, ALL_ALONG, AND, ATOM, AU, AX, EG, EU, EX, NOT, SETS, UNTILS
+from checker import EMPTY, FALSE, TRUE, Job
 from damaged import damages, flips, spoilt
 from generate import (
     JOB_V,
@@ -37,15 +38,13 @@ from generate import (
     written_line,
 )
 from tables import (
+    WILD,
     any_calls,
     bad_table,
     calls,
     fresh_table,
     inside,
-    open_table,
     settled_table,
-    slanted_table,
-    wild_table,
     wrong_length_table,
 )
 
@@ -70,46 +69,97 @@ def check_printed() -> None:
 
 
 def check_ruled_out() -> None:
-    """The restriction on the sets: x filled true with a, b false there; y -> x
-    with b(y) false and a(y) empty stays empty."""
-    job = Picture(
-        1, [0, 0], [0, 0], [(0, 0), (1, 0)], [(1, 0, 0), (5, 0, 0), (1, 1, 0), (6, 1, 2)]
-    )
-    text = job.text()
-    parsed = checker.parse(text)
-    own = [checker.TRUE, EMPTY]
-    smallest, largest = checker.rule_of_until(
-        parsed, 0, AU, own, [checker.FALSE, EMPTY], [checker.FALSE, checker.FALSE]
-    )
-    assert smallest == {0} and largest == set()
+    """The restriction on the sets, one node, x -> x and y -> x.  A(a U b): x filled
+    true with a, b false there; y with b false and a empty stays empty.  EG a: x
+    filled true with a false there; y with a empty stays empty, and with a true
+    becomes true.  Where y could join both sets it joins the smallest: for EG a, x
+    filled false and a true at both; for A(a U b), x filled true, a true and b false
+    at both."""
+    text = Picture(1, [0, 0], [0, 0], [(0, 0), (1, 0)], [(ATOM, 0, 0)]).text()
+    job = checker.parse(text)
+    for kind, own, a, b, sets in (
+        (AU, TRUE, (FALSE, EMPTY), (FALSE, FALSE), ({0}, set())),
+        (EG, TRUE, (FALSE, EMPTY), (), (set(), {0})),
+        (EG, TRUE, (FALSE, TRUE), (), (set(), {0, 1})),
+        (EG, FALSE, (TRUE, TRUE), (), ({0, 1}, set())),
+        (AG, FALSE, (TRUE, TRUE), (), ({0, 1}, set())),
+        (AU, TRUE, (TRUE, TRUE), (FALSE, FALSE), ({0, 1}, set())),
+    ):
+        rule = checker.set_rule(kind, a, b)
+        assert checker.rule_of_sets(job, 0, (own, EMPTY), rule) == sets, (kind, own, a)
+
+
+def check_all_along() -> None:
+    """EG and AG worked out by hand: the line of `verdict` for each job."""
+    p, q = (ATOM, 0, 0), (ATOM, 1, 0)
+    ring = Picture(2, [0, 1], [1, 1], [(0, 1), (1, 0)], [p, (EG, 0, 0)])
+    beside = [p, q, (AG, 0, 0), (EU, 0, 1), (AND, 2, 3), (NOT, 4, 0)]
+    way_out = [(0, 1), (1, 0), (1, 2), (2, 2)]
+    for job, numbers in (
+        # A ring cut between two nodes: each waits for the other, close says 1.
+        (ring, (1, 3, 8)),
+        (replace(ring, rules=[p, (AG, 0, 0)]), (1, 3, 8)),
+        # Not cut, the step sees the ring.
+        (replace(ring, nodes=1, owner=[0, 0]), (1, 2, 4)),
+        # p0 ends at state 1: there it is false at once, at 0 when 0 is told.
+        (replace(ring, label=[1, 0]), (0, 3, 8)),
+        # AG p0 and E(p0 U p1) both open, and a not of the two: a close for each,
+        # 1 and 0, and then the two lines above them.
+        (replace(ring, rules=beside), (1, 5, 24)),
+        # A way out to state 2, without p0: EG p0 stays in the ring, AG p0 is lost.
+        (Picture(2, [0, 1, 1], [1, 1, 0], way_out, [p, (EG, 0, 0)]), (1, 3, 10)),
+        (Picture(2, [0, 1, 1], [1, 1, 0], way_out, [p, (AG, 0, 0)]), (0, 3, 10)),
+        # A not below: EG !p0 is false wherever p0 is.
+        (replace(ring, rules=[p, (NOT, 0, 0), (EG, 1, 0)]), (0, 2, 12)),
+    ):
+        line = written_line((0, 0, *numbers))
+        assert checker.verdict_line(job.text()) == line, (job, line)
+    # Messages, and what close fills: 1 in every fragment.
+    text = ring.text()
+    table = settled_table(text, fresh_table(checker.parse(text)))
+    assert checker.offer(text, table, 0, 1) == ([14, 0, 0, 0, 0], table)
+    assert checker.offer(text, table, 0, 0) == ([13, 0, 0, 0, 0], table)
+    answer, after = checker.accept(text, table, 0, 1, 1, 1)
+    assert answer == [0, 0, 1] and checker.step(text, after, 0)[0] == [0, 0, 1]
+    answer, after = checker.close(text, table)
+    assert answer == [0, 0, 1, 4] and after == bytes([1] * 8)
+    assert checker.offer(text, after, 0, 1)[0] == [0, 0, 0, 1, 1]
 
 
 def check_sets(rng: random.Random, job: Job) -> None:
-    """The sets of an until against all sets: the smallest among those that
-    hold what they must, the largest among those that hold only what they may."""
+    """The sets of a step against all sets: the smallest among those that hold
+    what they must, the largest among those that hold only what they may."""
     states = job.sizes.states
     node = rng.randrange(job.sizes.nodes)
     part = job.fragment[node]
     own, a, b = ([rng.choice([0, 1, 2, 2]) for _ in range(states)] for _ in range(3))
-    kind = rng.choice([AU, EU])
-    true, false = (all, any) if kind == AU else (any, all)
+    kind = rng.choice(SETS)
     owned = set(job.owned[node])
+    joined = TRUE if kind in UNTILS else FALSE
 
     def must(s: int, among: set[int]) -> bool:
-        if own[s] == 0:
-            return False
-        if own[s] == 1:
-            return True
-        if s not in owned:
-            return False
-        return b[s] == 1 or a[s] == 1 and true(t in among for t in job.successors[s])
+        if own[s] != EMPTY or s not in owned:
+            return own[s] == joined
+        inside = [t in among for t in job.successors[s]]
+        return {
+            AU: b[s] == 1 or a[s] == 1 and all(inside),
+            EU: b[s] == 1 or a[s] == 1 and any(inside),
+            EG: a[s] == 0 or all(inside),
+            AG: a[s] == 0 or any(inside),
+        }[kind]
 
     def may(s: int, among: set[int]) -> bool:
-        if own[s] == 0:
+        if own[s] == 1 - joined:
             return True
         if s not in owned:
             return False
-        return b[s] == 0 and (a[s] == 0 or false(t in among for t in job.successors[s]))
+        inside = [t in among for t in job.successors[s]]
+        return {
+            AU: b[s] == 0 and (a[s] == 0 or any(inside)),
+            EU: b[s] == 0 and (a[s] == 0 or all(inside)),
+            EG: a[s] == 1 and any(inside),
+            AG: a[s] == 1 and all(inside),
+        }[kind]
 
     sets = [
         set(chosen)
@@ -120,7 +170,9 @@ def check_sets(rng: random.Random, job: Job) -> None:
     smallest = set(part).intersection(*closed)
     backed = [c for c in sets if not c & smallest and all(may(s, c) for s in c)]
     largest = set().union(*backed)
-    assert checker.rule_of_until(job, node, kind, own, a, b) == (smallest, largest)
+    rule = checker.set_rule(kind, a, b)
+    assert rule.value == joined
+    assert checker.rule_of_sets(job, node, own, rule) == (smallest, largest)
 
 
 def plain_finish(text: bytes, table: bytes) -> checker.Answer:
@@ -148,7 +200,9 @@ def truth_by_walks(job: Job, k: int, s: int) -> bool:
     walks = [[s]]
     for _ in range(job.sizes.states):
         walks = [w + [t] for w in walks for t in job.successors[w[-1]]]
-    all_or_some = all if kind == AU else any
+    all_or_some = all if kind in (AU, AG) else any
+    if kind in ALL_ALONG:
+        return all_or_some(all(truth_by_walks(job, a, t) for t in w) for w in walks)
     return all_or_some(
         any(
             truth_by_walks(job, b, w[i])
@@ -214,9 +268,10 @@ def check_demand_3(rng: random.Random, pictured: Picture, tally: Tally) -> None:
 
 def check_wild(rng: random.Random, text: bytes, tally: Tally) -> None:
     """Any table: step is idempotent and keeps filled cells, a settled table is
-    closed at an until, finish equals plain rounds and fills everything."""
+    closed at an until, with 0, or at EG or AG, with 1, finish equals plain rounds
+    and fills everything."""
     job = checker.parse(text)
-    for make_table in (wild_table, slanted_table, open_table):
+    for make_table in WILD:
         tally.tables += 1
         table = make_table(rng, job)
         check_unnamed(text, table)
@@ -230,19 +285,33 @@ def check_wild(rng: random.Random, text: bytes, tally: Tally) -> None:
         got = checker.finish(text, table)
         assert got == plain_finish(text, table)
         assert all(got[1][c] != EMPTY for c in inside(job))
+        before = table
         for one in any_calls(rng, text, table, 10):
             if one.name == "close" and one.answer[0] == 0:
-                assert job.rules[one.answer[2]].kind in (AU, EU)
-                assert one.answer[3] > 0
+                check_close(job, before, one.answer, one.table)
+            before = one.table
         table = settled_table(text, table)
-        answer, _ = checker.close(text, table)
+        answer, after = checker.close(text, table)
         assert answer[0] in (0, 20)
-        assert answer[0] == 20 or job.rules[answer[2]].kind in (AU, EU)
+        if answer[0] == 0:
+            check_close(job, table, answer, after)
         assert (answer[0] == 20) == all(table[c] != EMPTY for c in inside(job))
         bad = wrong_length_table(rng, job)
         assert checker.step(text, bad, 0) == ([9, 0, 0], bad)
         bad = bad_table(rng, job)
         assert checker.finish(text, bad) == ([10, 0, 0, 0, 0], bad)
+
+
+def check_close(job: Job, table: bytes, answer: list[int], after: bytes) -> None:
+    """An accepted close: the cells that it filled, all of the subformula told and
+    with the value for its kind."""
+    _, _, k, count = answer
+    closed = {AU: 0, EU: 0, EG: 1, AG: 1}[job.rules[k].kind]
+    changed = [cell for cell in range(len(table)) if table[cell] != after[cell]]
+    assert len(changed) == count > 0
+    for cell in changed:
+        assert cell % job.sizes.formulas == k
+        assert (table[cell], after[cell]) == (EMPTY, closed)
 
 
 def check_unnamed(text: bytes, table: bytes) -> None:
@@ -395,6 +464,9 @@ def check_told() -> int:
         (b"!!p15", [(1, 15, 0), (2, 0, 0), (2, 1, 0)]),
         (b"AX EX p1", [(1, 1, 0), (5, 0, 0), (4, 1, 0)]),
         (b"A[p1 U E[p0 U p1]]", [(1, 1, 0), (1, 0, 0), (7, 1, 0), (6, 0, 2)]),
+        (b"EG p2", [(1, 2, 0), (8, 0, 0)]),
+        (b"AG EG p0", [(1, 0, 0), (8, 0, 0), (9, 1, 0)]),
+        (b"EG p0 & AG p1", [(1, 0, 0), (8, 0, 0), (1, 1, 0), (9, 2, 0), (3, 1, 3)]),
     ):
         assert rules.lines(rules.tree(text)) == lines, text
     return len(told)
@@ -442,6 +514,7 @@ def self_test(seed: int, count: int) -> None:
     tally = Tally()
     check_printed()
     check_ruled_out()
+    check_all_along()
     for i in range(count):
         pictured = picture(rng)
         check_lines(pictured)

@@ -80,6 +80,22 @@ def open_table(rng: random.Random, job: Job) -> bytes:
     return bytes(table)
 
 
+def torn_table(rng: random.Random, job: Job) -> bytes:
+    """The truth, but any cells where a step takes sets: these meet lies in their
+    own subformula, and some cells could join both."""
+    table = bytearray(fresh_table(job))
+    for cell in inside(job):
+        s, k = divmod(cell, job.sizes.formulas)
+        table[cell] = checker.truth(job, k, s % job.sizes.states)
+        if job.rules[k].kind in checker.SETS:
+            table[cell] = rng.choice([0, 1, EMPTY, EMPTY])
+    return bytes(table)
+
+
+WILD = (wild_table, slanted_table, open_table, torn_table)
+"""Tables that no honest list of calls need reach."""
+
+
 def settled_table(text: bytes, table: bytes) -> bytes:
     """What steps and copies make of the table until nothing is filled."""
     job = checker.parse(text)
@@ -114,18 +130,14 @@ def bad_table(rng: random.Random, job: Job) -> bytes:
 def good_table(rng: random.Random, text: bytes) -> bytes:
     """Any table that questions 9 and 10 let by."""
     job = checker.parse(text)
-    way = rng.randrange(6)
+    way = rng.randrange(3 + len(WILD))
     if way == 0:
         return fresh_table(job)
     if way == 1:
         return reached_table(rng, text)
     if way == 2:
         return consistent_table(rng, job)
-    if way == 3:
-        return slanted_table(rng, job)
-    if way == 4:
-        return open_table(rng, job)
-    return wild_table(rng, job)
+    return WILD[way - 3](rng, job)
 
 
 # --------------------------------------------------------------------------
@@ -142,6 +154,22 @@ NUMBERS = {
     "finish": 0,
 }
 """The calls on a table, and how many numbers each takes."""
+
+KINDS_TOLD = {
+    "offer": checker.TEMPORAL,
+    "accept": checker.TEMPORAL,
+    "close": checker.SETS,
+}
+"""The calls that are about one subformula, and the kinds that it can have."""
+
+
+def kind_told(
+    name: str, text: bytes, numbers: tuple[int, ...], answer: list[int]
+) -> int:
+    """The kind that such a call, accepted, is about."""
+    told = {"offer": numbers[1:2], "accept": numbers[2:3], "close": answer[2:3]}
+    (formula,) = told[name]
+    return checker.parse(text).rules[formula].kind
 
 
 @dataclass

@@ -18,7 +18,7 @@ import generate
 import mutants
 import tables
 
-SEED, COUNT = 1, 120
+SEED, COUNT = 1, 160
 """The gate's cases."""
 
 QUESTIONS = {
@@ -266,7 +266,7 @@ def wild_step_trial(rng: random.Random) -> Trial:
     job = small(rng)
     text = job.text()
     parsed = checker.parse(text)
-    wild = rng.choice([tables.wild_table, tables.slanted_table, tables.open_table])
+    wild = rng.choice(tables.WILD)
     nodes = list(range(parsed.sizes.nodes))
     rng.shuffle(nodes)
     calls = [("step", (node,)) for node in nodes]
@@ -274,8 +274,8 @@ def wild_step_trial(rng: random.Random) -> Trial:
     return Trial(text, table, calls, some_lines(rng, job), f"steps, {wild.__name__}")
 
 
-def until_trial(rng: random.Random) -> Trial:
-    """A step for an until over any cells of a, b and its own.
+def sets_trial(rng: random.Random) -> Trial:
+    """A step for an until, EG or AG over any cells of a, b and its own.
 
     Atom 0 holds nowhere, so AX 0 is false at owned states and, at the border
     state that each of them leads to, empty; EX of it then stays as it is lent.
@@ -287,7 +287,9 @@ def until_trial(rng: random.Random) -> Trial:
     for _ in range(rng.randint(1, 5)):
         edges.add((rng.randrange(states - 1), rng.randrange(states - 1)))
     rules = [(1, 0, 0), (4, 0, 0), (5, 1, 0), (5, 1, 0)]
-    rules.append((rng.choice([6, 7]), *rng.choice([(2, 3), (2, 3), (3, 2), (2, 2)])))
+    kind = rng.choice(checker.SETS)
+    a, b = rng.choice([(2, 3), (2, 3), (3, 2), (2, 2)])
+    rules.append((kind, a, b if kind in checker.WITH_B else 0))
     owner = [0] * (states - 1) + [1]
     text = generate.Picture(2, owner, [0] * states, sorted(edges), rules).text()
     job = checker.parse(text)
@@ -300,7 +302,7 @@ def until_trial(rng: random.Random) -> Trial:
     for s in range(states):
         for k in likely:
             table[job.cell(0, s, k)] = rng.choice(likely[k])
-    return Trial(text, bytes(table), [("step", (0,))], [], "until over any cells")
+    return Trial(text, bytes(table), [("step", (0,))], [], "sets over any cells")
 
 
 KINDS_OF_TRIAL = (
@@ -313,7 +315,7 @@ KINDS_OF_TRIAL = (
     + [settled_trial] * 2
     + [gaps_trial] * 2
     + [wild_step_trial] * 3
-    + [until_trial] * 6
+    + [sets_trial] * 6
 )
 
 
@@ -323,7 +325,9 @@ KINDS_OF_TRIAL = (
 
 AT_ONCE, BY_ROUNDS = "finish at once", "finish round by round"
 
-WANTED = {f"{name} {n}" for name in QUESTIONS for n in [0, *QUESTIONS[name]]} | {
+WANTED = {f"{name} {n}" for name in QUESTIONS for n in [0, *QUESTIONS[name]]}
+WANTED |= {f"{name} of kind {n}" for name, ns in tables.KINDS_TOLD.items() for n in ns}
+WANTED |= {
     "line of 4 fields",
     "line of 2 fields",
     "line of 3 fields",
@@ -335,8 +339,9 @@ WANTED = {f"{name} {n}" for name in QUESTIONS for n in [0, *QUESTIONS[name]]} | 
     AT_ONCE,
     BY_ROUNDS,
 }
-"""Every call accepted and refused under each of its numbers, by name; a line of
-every sort, and an empty one for every reason; finish computed in both ways."""
+"""Every call accepted and refused under each of its numbers, by name; messages
+and closes about every kind that they can be about; a line of every sort, and an
+empty one for every reason; finish computed in both ways."""
 
 
 def line_given(text: bytes, at: int) -> str:
@@ -356,8 +361,13 @@ def given(trial: Trial) -> collections.Counter[str]:
     found.update(line_given(trial.text, at) for at in trial.lines)
     for one in trial.made():
         found[f"{one.name} {one.answer[0]}"] += 1
-        if one.name == "finish" and one.answer[0] == 0:
+        if one.answer[0] != 0:
+            continue
+        if one.name == "finish":
             found[BY_ROUNDS if is_long(one) else AT_ONCE] += 1
+        if one.name in tables.KINDS_TOLD:
+            kind = tables.kind_told(one.name, one.text, one.numbers, one.answer)
+            found[f"{one.name} of kind {kind}"] += 1
     return found
 
 
@@ -385,8 +395,8 @@ class Pool:
             seldom = self.shown_less(TWICE)
             if not seldom:
                 break
-            sets = not mutants.OF_SETS.isdisjoint(seldom)
-            self.add((until_trial if sets else rng.choice(KINDS_OF_TRIAL))(rng), seldom)
+            sets = not mutants.SET_MODELS.keys().isdisjoint(seldom)
+            self.add((sets_trial if sets else rng.choice(KINDS_OF_TRIAL))(rng), seldom)
 
     def shown_less(self, times: int) -> list[str]:
         """What fewer cases show."""
