@@ -18,8 +18,9 @@ wrong bytes, and numbers out of range, and rule texts, in the grammar and not.
 Each of COUNT draws is some lists of small jobs and some rules; the jobs at the
 limits and every rule text of up to four tokens come besides.
 
-It counts too, and fails where a call is never accepted, or where a number that
-a call can refuse with never comes.  The worked examples are compiled with the
+It counts too, and fails where a call is never accepted, where a number that a
+call can refuse with never comes, or where no message or no close is ever about a
+kind that it can be about.  The worked examples are compiled with the
 header: examples/service.c has to print what the model says of the same calls,
 and examples/rule.c the CTL truth of a rule that is typed.
 """
@@ -84,16 +85,32 @@ QUESTIONS = {
 }
 """The numbers that each call can give ("Read puts 1 to 8; ...")."""
 
+SAID = {
+    "accept": ("fills", 2),
+    "look": ("cell", 2),
+    "offer": ("value", 4),
+    "finish": ("verdict", 2),
+    "rule": ("lines", 2),
+}
+"""The number of an accepted answer that is counted: its name and its place."""
+
+
+def kinds(name: str) -> list[str]:
+    """The kinds that a call can be about."""
+    return [f"kind {kind}" for kind in tables.KINDS_TOLD[name]]
+
+
 TOLD = {
     "line": ["part", "empty"],
-    "accept": ["fills 0", "fills 1"],
+    "accept": ["fills 0", "fills 1", *kinds("accept")],
     "look": ["cell 0", "cell 1", "cell 2", "unnamed 0", "unnamed 12"],
-    "offer": ["value 0", "value 1"],
+    "offer": ["value 0", "value 1", *kinds("offer")],
+    "close": kinds("close"),
     "finish": ["verdict 0", "verdict 1"],
     "rule": [f"lines {count}" for count in range(1, rules.MOST + 1)],
 }
-"""What an accepted call can say, and must have said at least once; and that look
-without a node was accepted, and refused with 12."""
+"""What an accepted call can say or be about, and must have at least once; and
+that look without a node was accepted, and refused with 12."""
 
 HUGE = [2**16, 2**31, 2**32 - 1, 2**32, 2**32 + 1, 2**63, 2**64 - 2, 2**64 - 1]
 """Numbers that fit no cell: some become small ones where they are cut."""
@@ -340,10 +357,12 @@ class Comparison:
             self.counts[name, "part" if answer[1] > 0 else "empty"] += 1
             return
         self.counts[name, answer[0]] += 1
-        if answer[0] == 0 and name in TOLD:
-            word = TOLD[name][0].split()[0]
-            own = answer[4] if name == "offer" else answer[2]
-            self.counts[name, f"{word} {own}"] += 1
+        if answer[0] == 0 and name in SAID:
+            word, place = SAID[name]
+            self.counts[name, f"{word} {answer[place]}"] += 1
+        if answer[0] == 0 and name in tables.KINDS_TOLD:
+            kind = tables.kind_told(name, case.text, case.numbers, answer)
+            self.counts[name, f"kind {kind}"] += 1
 
     def missing(self) -> Iterator[str]:
         """What should have come and never did."""
@@ -661,7 +680,8 @@ def drawn_rules(comparison: Comparison) -> None:
     texts = [*rule_texts.spellings(rng, tree), *rule_texts.spoilt(rng, tree)]
     text = some_rule(rng)
     for count in range(34):
-        texts.append(rng.choice([b"!", b"AX ", b"EX "]) * count + b"(" + text + b")")
+        prefix = rng.choice(rule_texts.PREFIXES).encode() + b" "
+        texts.append(prefix * count + b"(" + text + b")")
     for text in [*texts, *rule_texts.noise(rng, 2)]:
         rule_call(comparison, text)
 
@@ -697,15 +717,16 @@ def large_lists(comparison: Comparison) -> None:
         generate.picture(rng, 40, 32, 8, exact=True),
     ):
         large_list(Play(comparison, picture))
-    Play(comparison, generate.cut_ring(checker.EU, 256, 4, False)).honest(4, 12)
+    for kind in (checker.EU, checker.AG):
+        Play(comparison, generate.cut_ring(kind, 256, 4, False)).honest(4, 12)
     Play(comparison, generate.tangled(rng, 256, 8, 8)).honest(3, 12)
 
 
 def small_lists(comparison: Comparison, i: int) -> None:
     """The i-th draw of small jobs."""
     rng = comparison.rng
-    until, negated = rng.choice([checker.AU, checker.EU]), rng.random() < 0.5
-    ring = generate.cut_ring(until, rng.randint(2, 12), rng.randint(3, 9), negated)
+    kind, negated = rng.choice(checker.SETS), rng.random() < 0.5
+    ring = generate.cut_ring(kind, rng.randint(2, 12), rng.randint(3, 9), negated)
     Play(comparison, ring).honest(10, 12)
     Play(comparison, generate.tangled(rng, 8, 10, 4)).honest(8, 12)
     Play(comparison, generate.picture(rng, 6, 8, 4)).honest(6, 12)

@@ -6,7 +6,9 @@ Runs the program on job texts and compares each whole line with the model's.
 The model plays document 01's rounds, and decides the verdict once more by CTL
 truth on the uncut structure; where the two differ, that is a difference too.
 So are a crash, a hang, any other output, more bytes read than document 01
-allows, and two cuttings of one structure with two verdicts.
+allows, and two cuttings of one structure with two verdicts.  It fails, too, where
+no job is accepted, none refused under one of 1 to 8, or where rules of some kind
+have not come out both ways.
 
 Always run are the examples, the printed cases, the limits, the families that
 take most rounds, and every damage of a few jobs.  To these come COUNT draws of
@@ -96,7 +98,9 @@ def valid_cases(rng: random.Random) -> Iterator[Case]:
         generate.heavy(12, 4, 8, 3),
         generate.heavy(64, 20, 32, 8),
         generate.cut_chain(checker.AU, 2, 3),
+        generate.cut_chain(checker.EG, 5, 4),
         generate.cut_ring(checker.EU, 8, 32, True),
+        generate.cut_ring(checker.AG, 8, 32, True),
     ):
         for number in range(3):
             yield Case(f"family {job.lines()[0]} numbering {number}", job.text())
@@ -230,6 +234,9 @@ class Comparison:
     """What was run, and the differences found.  A program has its own way to
     judge a case, and its own summary."""
 
+    wanted: Iterable[int]
+    """The numbers that the program can answer."""
+
     def __init__(self, program: str) -> None:
         self.program = program
         self.numbers: collections.Counter[int] = collections.Counter()
@@ -261,6 +268,13 @@ class Comparison:
         """One line."""
         raise NotImplementedError
 
+    def missing(self) -> Iterator[str]:
+        """What should have come and never did."""
+        for number in self.wanted:
+            if self.numbers[number] == 0:
+                told = f"refused with {number}" if number else "accepted"
+                yield f"no text was {told}"
+
     def show(self) -> None:
         """Print the differences with the shortest texts."""
         self.differences.sort(key=lambda difference: len(difference.case.text))
@@ -279,16 +293,22 @@ class Comparison:
                 break
         self.show()
         print(f"{self.summary()}; {time.time() - began:.0f} s")
-        return 1 if self.differences else 0
+        missing = list(self.missing())
+        for what in missing:
+            print(f"WRONG: {what}")
+        return 1 if self.differences or missing else 0
 
 
 class Verdicts(Comparison):
     """The program `verdict`."""
 
+    wanted = range(9)
+
     def __init__(self, program: str) -> None:
         super().__init__(program)
         self.verdicts: dict[str, bytes] = {}
         self.cuttings = 0
+        self.judged_kinds: set[tuple[int, bytes]] = set()  # the whole rule's, verdict
 
     def judged(self, case: Case) -> tuple[bytes, bytes, list[str]]:
         """The lines of both, and where another cutting or another way of the
@@ -302,8 +322,20 @@ class Verdicts(Comparison):
             first = self.verdicts.setdefault(case.structure, verdict(out))
             if verdict(out) != first:
                 wrong.append("another cutting has another verdict")
-        self.numbers[checker.read(case.text)[0]] += 1
+        number = checker.read(case.text)[0]
+        self.numbers[number] += 1
+        if number == 0:
+            whole = checker.parse(case.text).rules[-1]
+            self.judged_kinds.add((whole.kind, verdict(line)))
         return line, out, wrong
+
+    def missing(self) -> Iterator[str]:
+        """Verdicts on rules of each kind, too."""
+        yield from super().missing()
+        for kind in checker.KINDS:
+            for value in (0, 1):
+                if (kind, b"%5d" % value) not in self.judged_kinds:
+                    yield f"no rule of kind {kind} came out {value}"
 
     def summary(self) -> str:
         """One line."""

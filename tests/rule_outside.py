@@ -10,7 +10,8 @@ outputs.
 Always run are the examples, the texts of `rule_texts.py` that come with their
 answers, those on which the definitions are computed, and short ones.  To these
 come COUNT draws of a rule in three spellings, with damages of it.  It fails,
-too, where no text is accepted, or none refused under 22 or 23.
+too, where no text is accepted, none refused under 22 or 23, or where no line of
+some kind is written.
 """
 
 from __future__ import annotations
@@ -20,14 +21,11 @@ import random
 import sys
 from typing import Iterator
 
+import checker
 import generate
 import rule_texts
 import rules
 from outside import EXAMPLES, Case, Comparison, Run, options
-
-NUMBERS = (0, 22, 23)
-"""What the program can answer; its own buffer has the right length."""
-
 
 # --------------------------------------------------------------------------
 # The cases
@@ -103,11 +101,14 @@ def drawn_cases(rng: random.Random, count: int) -> Iterator[Case]:
 
 
 class Rules(Comparison):
-    """The program `rule`."""
+    """The program `rule`.  Its own buffer has the right length."""
+
+    wanted = (0, 22, 23)
 
     def __init__(self, program: str) -> None:
         super().__init__(program)
         self.outputs: dict[str, bytes] = {}
+        self.kinds: set[int] = set()
 
     def judged(self, case: Case) -> tuple[bytes, bytes, list[str]]:
         """What both print, and where another spelling gives something else."""
@@ -117,6 +118,7 @@ class Rules(Comparison):
         if case.structure and self.outputs.setdefault(case.structure, out) != out:
             wrong.append("another spelling has another output")
         self.numbers[int(told[:5])] += 1
+        self.kinds.update(int(line[:5]) for line in told.splitlines()[1:])
         return told, out, wrong
 
     def summary(self) -> str:
@@ -128,29 +130,23 @@ class Rules(Comparison):
         )
 
     def missing(self) -> Iterator[str]:
-        """The answers that should have come and never did."""
-        for number in NUMBERS:
-            if self.numbers[number] == 0:
-                told = f"refused with {number}" if number else "accepted"
-                yield f"no text was {told}"
+        """Lines of each kind, too."""
+        yield from super().missing()
+        for kind in checker.KINDS:
+            if kind not in self.kinds:
+                yield f"no line of kind {kind} was written"
 
 
 def main() -> int:
     """The program."""
     chosen = options(__doc__, 200)
     rng = random.Random(chosen.seed)
-    comparison = Rules(chosen.program)
-    status = comparison.run(
-        itertools.chain(
-            named_cases(),
-            short_cases(rng),
-            drawn_cases(rng, chosen.count),
-        )
+    cases = itertools.chain(
+        named_cases(),
+        short_cases(rng),
+        drawn_cases(rng, chosen.count),
     )
-    for what in comparison.missing():
-        print(f"WRONG: {what}")
-        status = 1
-    return status
+    return Rules(chosen.program).run(cases)
 
 
 if __name__ == "__main__":
