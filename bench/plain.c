@@ -7,7 +7,7 @@
 #include <string.h>
 #include <unistd.h>
 
-enum { ATOM = 1, NOT, AND, AX, EX, AU, EU };
+enum { ATOM = 1, NOT, AND, AX, EX, AU, EU, EG, AG };
 enum { OUTSIDE, BORDER, OWNED };
 enum { FALSE, TRUE, EMPTY };
 enum { MAX_TEXT = 25878 };
@@ -49,7 +49,7 @@ static bool formed(int at, int fields) {
 static bool subformula_ok(int k, int kind, int a, int b) {
     switch (kind) {
     case ATOM: return a <= 15 && b == 0;
-    case NOT: case AX: case EX: return a < k && b == 0;
+    case NOT: case AX: case EX: case EG: case AG: return a < k && b == 0;
     case AND: case AU: case EU: return a < k && b < k;
     default: return false;
     }
@@ -123,22 +123,30 @@ static void spread(bool all, uint8_t *mark) {
         }
 }
 
-static void until(int n, int k, uint8_t *value) {
-    bool all = kind[k] == AU;
-    uint8_t in[256], out[256];
+static int opposite(int value) { return value == EMPTY ? EMPTY : 1 - value; }
+
+// The value of the least set's cells; the greatest set's have the other.
+static int least_value(int k) { return kind[k] == AU || kind[k] == EU ? TRUE : FALSE; }
+
+// An until, EG or AG. A state is in the least set where `start` is true, and may join where `grow` is.
+static void sets(int n, int k, uint8_t *value) {
+    bool all = kind[k] == AU || kind[k] == EG;
+    int least = least_value(k);
+    uint8_t start[256], grow[256], in[256], out[256];
     for (int s = 0; s < states; s++) {
         int own = *cell(n, s, k), a = *cell(n, s, left[k]), b = *cell(n, s, right[k]);
+        start[s] = least == TRUE ? b : opposite(a), grow[s] = least == TRUE ? a : TRUE;
         bool free = own == EMPTY && place[n][s] == OWNED;
-        in[s] = own == TRUE || (free && b == TRUE) ? 2 : free && a == TRUE ? 1 : 0;
+        in[s] = own == least || (free && start[s] == TRUE) ? 2 : free && grow[s] == TRUE ? 1 : 0;
     }
     spread(all, in);
     for (int s = 0; s < states; s++) {
-        int own = *cell(n, s, k), a = *cell(n, s, left[k]), b = *cell(n, s, right[k]);
-        bool free = own == EMPTY && place[n][s] == OWNED && in[s] != 2 && b == FALSE;
-        out[s] = own == FALSE ? 0 : !free ? 2 : a == FALSE ? 0 : 1;
+        int own = *cell(n, s, k);
+        bool free = own == EMPTY && place[n][s] == OWNED && in[s] != 2 && start[s] == FALSE;
+        out[s] = own == opposite(least) ? 0 : !free ? 2 : grow[s] == FALSE ? 0 : 1;
     }
     spread(all, out);
-    for (int s = 0; s < states; s++) value[s] = in[s] == 2 ? TRUE : out[s] == 2 ? EMPTY : FALSE;
+    for (int s = 0; s < states; s++) value[s] = in[s] == 2 ? least : out[s] == 2 ? EMPTY : opposite(least);
 }
 
 static int next_value(int n, int s, int a, bool all) {
@@ -160,7 +168,7 @@ static int step_column(int n, int k) {
     int a = left[k], b = right[k];
     for (int s = 0; s < states; s++) switch (kind[k]) {
         case ATOM: value[s] = label[s] >> a & 1; break;
-        case NOT: value[s] = *cell(n, s, a) == EMPTY ? EMPTY : 1 - *cell(n, s, a); break;
+        case NOT: value[s] = opposite(*cell(n, s, a)); break;
         case AND: {
             int x = *cell(n, s, a), y = *cell(n, s, b);
             value[s] = x == FALSE || y == FALSE ? FALSE : x == TRUE && y == TRUE ? TRUE : EMPTY;
@@ -169,7 +177,7 @@ static int step_column(int n, int k) {
         case AX: value[s] = next_value(n, s, a, true); break;
         case EX: value[s] = next_value(n, s, a, false); break;
     }
-    if (kind[k] >= AU) until(n, k, value);
+    if (kind[k] >= AU) sets(n, k, value);
     int filled = 0;
     for (int s = 0; s < states; s++)
         if (place[n][s] != OUTSIDE && *cell(n, s, k) == EMPTY && value[s] != EMPTY) *cell(n, s, k) = value[s], filled++;
@@ -218,7 +226,7 @@ static int close_open(void) {
             for (int n = 0; n < nodes; n++) {
                 stale[n][k] = true;
                 for (int u = 0; u < states; u++)
-                    if (place[n][u] != OUTSIDE && *cell(n, u, k) == EMPTY) *cell(n, u, k) = FALSE, filled++;
+                    if (place[n][u] != OUTSIDE && *cell(n, u, k) == EMPTY) *cell(n, u, k) = opposite(least_value(k)), filled++;
             }
             return filled;
         }

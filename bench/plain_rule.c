@@ -7,10 +7,10 @@
 #include <string.h>
 #include <unistd.h>
 
-enum { ATOM = 1, NOT, AND, AX, EX, AU, EU };
+enum { ATOM = 1, NOT, AND, AX, EX, AU, EU, EG, AG };
 enum { MAX_TEXT = 512, MAX_LINES = 32 };
 // tokens; those of one byte are that byte
-enum { END, WRONG, WORD_P, WORD_AX, WORD_EX, IMPLIES };
+enum { END, WRONG, WORD_P, WORD_AX, WORD_EX, WORD_EG, WORD_AG, IMPLIES };
 
 // zeros behind it
 static uint8_t text[MAX_TEXT + 8];
@@ -33,6 +33,7 @@ static int word(const uint8_t *c, int width) {
     behind += width;
     if (width == 1) return *c == 'A' || *c == 'E' || *c == 'U' ? *c : WRONG;
     if (width == 2 && c[1] == 'X') return *c == 'A' ? WORD_AX : *c == 'E' ? WORD_EX : WRONG;
+    if (width == 2 && c[1] == 'G') return *c == 'A' ? WORD_AG : *c == 'E' ? WORD_EG : WRONG;
     if (*c != 'p' || width > 3 || !isdigit(c[1])) return WRONG;
     atom = c[1] - '0';
     if (width == 2) return WORD_P;
@@ -91,6 +92,8 @@ static int prefixed(void) {
     case '!': return prefix(NOT);
     case WORD_AX: return prefix(AX);
     case WORD_EX: return prefix(EX);
+    case WORD_EG: return prefix(EG);
+    case WORD_AG: return prefix(AG);
     case WORD_P: return keep(ATOM, number, 0);
     case 'A': return until(AU);
     case 'E': return until(EU);

@@ -63,8 +63,9 @@ def jobs() -> Iterator[tuple[str, generate.Picture]]:
             yield f"heavy, line {hanging}, {nodes} nodes", job
     for states in (64, 128, 256):
         yield "cut chain", generate.cut_chain(checker.AU, states, 32)
-    for states in (64, 128, 256):
-        yield "cut ring", generate.cut_ring(checker.EU, states, 32, False)
+    for told, kind in (("", checker.EU), (", EG", checker.EG), (", AG", checker.AG)):
+        for states in (64, 128, 256):
+            yield f"cut ring{told}", generate.cut_ring(kind, states, 32, False)
 
 
 def chained(word: str, count: int) -> bytes:
@@ -87,6 +88,7 @@ def rules() -> Iterator[tuple[str, bytes]]:
     yield "p0 to p9, `=>`", chained("=>", 128)
     yield "90 p0 to p9, `=>`, spaces", rule_texts.filled(chained("=>", 90), 512)
     yield "63 nested `A[p0 U`", rule_texts.nested("A[p0 U ", "]", 63)
+    yield "170 `AG`, p0", rule_texts.nested("AG ", "", 170)
     yield "p0, 510 spaces", rule_texts.filled(b"p0", 512)
     yield "514 bytes of nonsense", random.Random(1).randbytes(514)
 
