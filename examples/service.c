@@ -6,9 +6,9 @@
  *     target/service examples/menu.job
  *
  * Every worker steps. Then each owner's new results are offered and delivered to the workers that have the state at their border. When a
- * turn of this fills nothing the table is settled, and a close makes the smallest open subformula false; when nothing is open either, the
- * table is full and finish only reads the verdict. Here one process plays all workers; in a service a worker is a thread or a machine, and the
- * messages travel as slowly as they like.
+ * turn of this fills nothing the table is settled, and a close fills the smallest open subformula, an until with false, EG or AG with true; when
+ * nothing is open either, the table is full and finish only reads the verdict. Here one process plays all workers; in a service a worker is a
+ * thread or a machine, and the messages travel as slowly as they like.
  *
  * Prints one line: the verdict and what was done, or the refusal with the line that it is about. Exit status 0 for yes, 1 for no, 2 otherwise.
  */
