@@ -12,7 +12,8 @@ import random
 from dataclasses import dataclass, replace
 from typing import Iterator
 
-from checker import ALL_ALONG, AND, ATOM, AU, AX, EU, EX, NOT, SETS, UNTILS, WITH_B
+from checker import ALL_ALONG, KINDS, SETS, UNTILS, WITH_B
+from checker import AND, ATOM, AU, AX, EU, EX, NOT
 
 Edge = tuple[int, int]
 Line = tuple[int, ...]
@@ -119,6 +120,11 @@ def labels(rng: random.Random, size: int) -> list[int]:
     return [rng.randrange(bits) for _ in range(size)]
 
 
+def over_atoms(kind: int) -> list[Rule]:
+    """Atoms 0 and 1, and a line of this kind over them."""
+    return [(ATOM, 0, 0), (ATOM, 1, 0), (kind, 0, 1 if kind in WITH_B else 0)]
+
+
 def about(kind: int, before: int, other: int) -> Rule:
     """A line about the line before, with another as left operand where the kind
     has two."""
@@ -195,6 +201,15 @@ def tangled(rng: random.Random, states: int, formulas: int, nodes: int) -> Pictu
         holds ^= kind == NOT
         lines.append(about(kind, k - 1, rng.choice([0, 0, rng.randrange(k)])))
     return Picture(nodes, owner, label, sorted(edges), lines)
+
+
+def each_kind() -> Iterator[Picture]:
+    """Every kind over every labelling of a ring of two states, the first with a
+    loop, cut between them."""
+    for kind in KINDS:
+        for label in itertools.product(range(4), repeat=2):
+            edges = [(0, 0), (0, 1), (1, 0)]
+            yield Picture(2, [0, 1], list(label), edges, over_atoms(kind))
 
 
 # --------------------------------------------------------------------------
@@ -309,8 +324,8 @@ def cut_chain(kind: int, size: int, formulas: int) -> Picture:
     """A chain cut at every edge, atom 0 up to the last state and atom 1 there,
     and the same line again and again: the truth of an until of the two, or the
     falsity of EG or AG of atom 0, comes from the end by one state in a round."""
-    lines = [(ATOM, 0, 0), (ATOM, 1, 0)]
-    lines += [(kind, 0, 1 if kind in WITH_B else 0)] * (formulas - 2)
+    atom, other, line = over_atoms(kind)
+    lines = [atom, other] + [line] * (formulas - 2)
     owner = [s % 2 for s in range(size)]
     return Picture(2, owner, [1] * (size - 1) + [2], chain(size), lines)
 

@@ -6,7 +6,7 @@ Each mutant is a model, that of checker.py or that of rules.py, with one place
 read otherwise.  For each the cases are answered again and those that change are
 counted; a mutant that changes none is a gap in the cases.  Without options the
 cases are the gate's.  A mutant of truth on the uncut structure changes no answer:
-it has to differ from what finish fills, on as many jobs drawn besides.
+it has to differ from what finish fills on jobs that are drawn besides.
 """
 
 from __future__ import annotations
@@ -550,8 +550,9 @@ def main() -> int:
     texts = list(rule_texts.chosen())
     unnoticed = show(counts(drawn), len(drawn))
     rng = random.Random(chosen.seed)
-    jobs = [generate.picture(rng).text() for _ in range(chosen.count)]
-    unnoticed += show(truth_counts(jobs), len(jobs))
+    jobs = [generate.picture(rng) for _ in range(chosen.count)]
+    jobs += [generate.tangled(rng, 6, 8, 4) for _ in range(chosen.count)]
+    unnoticed += show(truth_counts(job.text() for job in jobs), len(jobs))
     unnoticed += show(rule_counts(texts), len(texts))
     return 1 if unnoticed else 0
 

@@ -10,9 +10,9 @@ allows, and two cuttings of one structure with two verdicts.  It fails, too, whe
 no job is accepted, none refused under one of 1 to 8, or where rules of some kind
 have not come out both ways.
 
-Always run are the examples, the printed cases, the limits, the families that
-take most rounds, and every damage of a few jobs.  To these come COUNT draws of
-four jobs each, with damages and cuttings of them.
+Always run are the examples, the printed cases, every kind over a small structure,
+the limits, the families that take most rounds, and every damage of a few jobs.
+To these come COUNT draws of four jobs each, with damages and cuttings of them.
 """
 
 from __future__ import annotations
@@ -88,8 +88,10 @@ def named_cases() -> Iterator[Case]:
 
 
 def valid_cases(rng: random.Random) -> Iterator[Case]:
-    """The limits, the families in other sizes and numberings, and every cutting
-    of small structures."""
+    """The limits, every kind over a small structure, the families in other sizes
+    and numberings, and every cutting of small structures."""
+    for job in generate.each_kind():
+        yield Case(f"kind {job.rules[-1][0]}, labels {job.label}", job.text())
     for job in generate.limits(rng):
         yield Case(f"limits {job.lines()[0]}", job.text())
     for job in (

@@ -29,11 +29,13 @@ from damaged import damages, flips, spoilt
 from generate import (
     JOB_V,
     Picture,
+    each_kind,
     full,
     picture,
     printed,
     recut,
     scattered,
+    tangled,
     written,
     written_line,
 )
@@ -211,6 +213,17 @@ def truth_by_walks(job: Job, k: int, s: int) -> bool:
         )
         for w in walks
     )
+
+
+def check_truth(pictured: Picture) -> None:
+    """Truth by walks at every state of a tiny job, and by finish at the first."""
+    text = pictured.text()
+    job = checker.parse(text)
+    for k in range(job.sizes.formulas):
+        for s in range(job.sizes.states):
+            assert truth_by_walks(job, k, s) == checker.truth(job, k, s)
+    verdict = checker.finish(text, fresh_table(job))[0][2]
+    assert verdict == checker.truth(job, job.sizes.formulas - 1, 0)
 
 
 @dataclass
@@ -515,8 +528,10 @@ def self_test(seed: int, count: int) -> None:
     check_printed()
     check_ruled_out()
     check_all_along()
+    for pictured in each_kind():
+        check_truth(pictured)
     for i in range(count):
-        pictured = picture(rng)
+        pictured = tangled(rng, 6, 8, 4) if i % 3 == 2 else picture(rng)
         check_lines(pictured)
         check_demand_3(rng, pictured, tally)
         check_wild(rng, pictured.text(), tally)
@@ -527,10 +542,7 @@ def self_test(seed: int, count: int) -> None:
         if i % 5 == 0:
             tiny = picture(rng, 4, 4, 2)
             tiny.edges = scattered(rng, len(tiny.owner), rng.randint(1, 6))
-            job = checker.parse(tiny.text())
-            for k in range(job.sizes.formulas):
-                for s in range(job.sizes.states):
-                    assert truth_by_walks(job, k, s) == checker.truth(job, k, s)
+            check_truth(tiny)
         tally.jobs += 1
     for _ in range(3):
         large = full(rng)
