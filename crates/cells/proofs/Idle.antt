@@ -3,7 +3,7 @@
 use Prim.Native.Nat.{ℕ, zero, suc, _<_, _≤_}
 use mathlib.Core.Path.{_≡_, refl, sym, _∙_}
 use mathlib.Core.Bool.{true, _&&_}
-use mathlib.Core.Logic.{⊎-elim, inl}
+use mathlib.Core.Logic.{⊎-elim}
 use native.Mathlib.Nat.{le-refl, mod-lt}
 use native.Mathlib.Omega.{arith}
 use borrow.Author.Tests.{eqb-true, eq-eqb}

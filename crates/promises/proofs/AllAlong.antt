@@ -2,12 +2,12 @@
 -- nothing.
 use Prim.Native.Nat.{ℕ, _<_, _≤_}
 use mathlib.Core.Path.{_≡_, refl, sym, _∙_, ap, subst}
-use mathlib.Core.Bool.{Bool, true, false, cond, _&&_, _||_}
+use mathlib.Core.Bool.{Bool, true, false, cond, _&&_}
 use mathlib.Core.List.{List, [], _∷_}
 use mathlib.Core.Logic.{_↔_}
 use native.Mathlib.Nat.{le-refl}
 use native.Mathlib.Omega.{arith}
-use borrow.Author.Tests.{lt-ltb, le-ltb, eq-eqb, ne-eqb}
+use borrow.Author.Tests.{lt-ltb, le-ltb, ne-eqb}
 use lib.ListN.{getD}
 use lib.Dec.{leb, ltb, eqb}
 use Rattle.law.specs.Fixpoint.{member}
@@ -15,7 +15,7 @@ use Rattle.law.specs.Lists.{some}
 use Rattle.law.proofs.Bool.{split, cond-false}
 use Rattle.law.proofs.Bounded.{by-equal}
 use Rattle.text.specs.Field.{Text}
-use Rattle.job.specs.Job.{Job, Quantifier, forAll, exists, decode, size, subformulaCount, subformula}
+use Rattle.job.specs.Job.{Job, Quantifier, forAll, exists, decode, subformulaCount, subformula}
 use Rattle.job.specs.Formula.{atomic, unary, binary, parsed, fields, isFormula}
 use Rattle.job.specs.Rule.{ruleOf, ruleAt, closedValue, quantifier, IsSets, InRange}
 use Rattle.job.specs.Answer.{accepted}
@@ -29,7 +29,6 @@ use Rattle.job.specs.declared.rule.Rule.the-variants.{Sets}
 use Rattle.job.proofs.Exact.{decode-is-job}
 use Rattle.ctl.specs.Truth.{Walk, Throughout, OnWalks, meaning, Holds}
 use Rattle.ctl.proofs.Renaming.{holds-meaning}
-use Rattle.cells.specs.Fragment.{inFragment}
 use Rattle.cells.specs.Table.{Table, cell, isEmpty, filled}
 use Rattle.cells.specs.SetRule.{SetRule, setRule, smallest, largest}
 use Rattle.cells.specs.Sets as sets
@@ -37,7 +36,7 @@ use Rattle.cells.specs.Step.{opposite, known, column, stepTable}
 use Rattle.cells.specs.Close.{smallestOpen, closeTable}
 use Rattle.cells.specs.Calls.{step, close, told, left}
 use Rattle.cells.proofs.Fill.{fill-cell, fill-cell-left}
-use Rattle.cells.proofs.Formed.{Formed, cell-low, stepTable-formed}
+use Rattle.cells.proofs.Formed.{cell-low, stepTable-formed}
 use Rattle.cells.proofs.Lower.{open-sets}
 use Rattle.cells.proofs.Repeat.{bySets-at}
 use Rattle.cells.proofs.Sets.{smallest-is, largest-is}

@@ -1,6 +1,6 @@
 -- Every prefix is taken alike: behind it a rule in parentheses is a rule. Assumes nothing.
-use Prim.Native.Nat.{ℕ, _<_}
-use mathlib.Core.Path.{_≡_, refl, sym, _∙_, ap, subst}
+use Prim.Native.Nat.{ℕ}
+use mathlib.Core.Path.{refl, sym}
 use mathlib.Core.Bool.{true, true≢false}
 use mathlib.Core.List.{List, [], _∷_, _++_, append-assoc}
 use lib.ListN.{replicate}
@@ -10,7 +10,7 @@ use Rattle.rule_text.specs.declared.token.Prefix.{Prefix as PrefixOperat
 use Rattle.rule_text.specs.declared.token.Token.{Token}
 use Rattle.rule_text.specs.declared.token.Token.the-variants.{Prefix}
 use Rattle.rule_text.specs.Tree.{Tree, prefix}
-use Rattle.rule_text.specs.Token.{spelling, isBracket, isLetterMark, isToken, letterOrDigit, isWord, startsWithWord, Apart, Spells, nothing, token, leftParenthesis, rightParenthesis}
+use Rattle.rule_text.specs.Token.{spelling, isBracket, isToken, letterOrDigit, isWord, startsWithWord, Apart, Spells, nothing, token, leftParenthesis, rightParenthesis}
 use Rattle.rule_text.specs.Grammar.{prefixed, inParentheses, tighter, Means}
 
 -- no space is needed before a closing parenthesis

@@ -17,12 +17,13 @@ use Rattle.job.specs.Job.{Job, Structure, Quantifier, over, size, subformulaCou
 use Rattle.job.specs.Rule.{quantifier, AsksSmaller, InRange}
 use Rattle.job.specs.Written.{IsJob}
 use Rattle.job.specs.declared.rule.Condition.{Condition}
-use Rattle.job.proofs.RuleLaws.{asks-up}
+use Rattle.job.specs.declared.rule.Condition.the-variants.{Always, Holds, Fails}
 use Rattle.cells.specs.Fragment.{inFragment, inner}
 use Rattle.cells.specs.Table.{Table, index, cell, isEmpty, inside}
-use Rattle.cells.specs.Step.{known}
+use Rattle.cells.specs.Step.{opposite, known}
 use Rattle.cells.proofs.Index.{index-lt, nodeOf-index, stateOf-index}
 use Rattle.cells.proofs.Right.{right-is}
+use Rattle.cells.proofs.Tells.{by-cell}
 use Rattle.image.specs.Image.{jobOf, placeOf, rank, fragmentSize, fragmentState}
 use Rattle.image.proofs.Ranks.{state-below, state-inside, rank-state, rank-below, state-rank}
 use Rattle.image.proofs.Places.{place-inner}
@@ -31,7 +32,8 @@ use Rattle.table.specs.Column.{cellsOf}
 use Rattle.spread.specs.Spread.{spreadRule, Joinable, Spread}
 use Rattle.spread.proofs.Turn.{rule-mono}
 use Rattle.sets.specs.declared.sets.Growth.{Growth}
-use Rattle.sets.specs.Marks.{ruleBy, mark, markAt, grows, IsSet, Marks}
+use Rattle.sets.specs.declared.sets.WantedCell.{WantedCell}
+use Rattle.sets.specs.Marks.{ruleBy, mark, counts, wanted, isWanted, markBy, markAt, grows, IsSet, Marks}
 
 module _ (J : Job) (job : IsJob J) (n : ℕ) (f : ℕ → ℕ) (d : ℕ) where
   pub marks-start : Marks J n f d 0 (replicate 256 d)
@@ -120,14 +122,10 @@ module _ (J : Job) (job : IsJob J) (n : ℕ) (f : ℕ → ℕ) (d : ℕ) where
               let stop : ⊥ = omega arith in absurd stop);
         }
 
--- what is known of a condition, by its case
-pub known-case : (at : ℕ → ℕ → ℕ) (s : ℕ) {x : ℕ} {c d : Condition} → c ≡ d → x ≡ known at d s → x ≡ known at c s
-known-case at s e v = v ∙ ap (λ (f : Condition). known at f s) (sym e)
-
 -- A state's mark by the tests of the code.
-module _ (also v place own start grow : ℕ) where
+module _ (also v place own : ℕ) (starts grows : Bool) where
   abbrev its : ℕ
-  its = mark also v place own start grow
+  its = mark also v place own starts grows
 
   pub mark-own : own ≡ v → 2 ≡ its
   unfolding mark
@@ -144,17 +142,58 @@ module _ (also v place own start grow : ℕ) where
       mark-border f = simp (ne-eqb own v apart, eq-eqb own 2 empty, ne-eqb place 2 f)
 
       module _ (in-place : place ≡ 2) where
-        pub mark-start : (eqb start 1 || eqb start also) ≡ true → 2 ≡ its
+        pub mark-start : starts ≡ true → 2 ≡ its
         unfolding mark isEmpty
         mark-start e = simp (ne-eqb own v apart, eq-eqb own 2 empty, eq-eqb place 2 in-place, e)
 
-        pub mark-grow : (eqb start 1 || eqb start also) ≡ false → (eqb grow 1 || eqb grow also) ≡ true → 1 ≡ its
+        pub mark-grow : starts ≡ false → grows ≡ true → 1 ≡ its
         unfolding mark isEmpty
         mark-grow e f = simp (ne-eqb own v apart, eq-eqb own 2 empty, eq-eqb place 2 in-place, e, f)
 
-        pub mark-no-join : (eqb start 1 || eqb start also) ≡ false → (eqb grow 1 || eqb grow also) ≡ false → 0 ≡ its
+        pub mark-no-join : starts ≡ false → grows ≡ false → 0 ≡ its
         unfolding mark isEmpty
         mark-no-join e f = simp (ne-eqb own v apart, eq-eqb own 2 empty, eq-eqb place 2 in-place, e, f)
+
+-- the same by the cells as they were read, one after the other
+module _ (J : Job) (t : Table) (n s k v : ℕ) (start grow : WantedCell) (also : ℕ) where
+  pub marks-by :
+      {x o p b a : ℕ}
+      → o ≡ cell J t n s k
+      → p ≡ placeOf J n s
+      → b ≡ cell J t n s (start .operand)
+      → a ≡ cell J t n s (grow .operand)
+      → x ≡ mark also v p o (isWanted also start b) (isWanted also grow a)
+      → x ≡ markBy J t n s k v start grow also
+  marks-by own place b a e = rw (own, place, b, a) at e
+
+-- A condition wants a cell of the rule's own column or of an operand's.
+wanted-in : (k n : ℕ) → k < n → (c : Condition) → AsksSmaller k c → wanted k c .operand < n
+wanted-in k n l Always o = l
+wanted-in k n l (Holds a) o = omega arith
+wanted-in k n l (Fails a) o = omega arith
+
+-- Where the own cell is empty, what is wanted is there where the condition counts as met; elsewhere the mark does not ask.
+module _ (at : ℕ → ℕ → ℕ) (s k also : ℕ) (low : (j : ℕ) → at j s ≤ 2) (high : 2 ≤ also) where
+  -- whether a cell is the one that is wanted, or counts besides
+  abbrev read : Condition → Bool
+  read c = isWanted also (wanted k c) (at (wanted k c .operand) s)
+
+  wanted-counts : at k s ≡ 2 → (c : Condition) → read c ≡ counts also (known at c s)
+  unfolding known opposite isEmpty
+  wanted-counts empty Always = rw empty refl
+  wanted-counts empty (Holds a) = refl
+  wanted-counts empty (Fails a) =
+      by-cell (at a s) (low a)
+      (λ e. rw e refl)
+      (λ e. rw (e, ne-eqb 1 also (λ h. omega arith), ne-eqb 0 also (λ h. omega arith)) refl)
+      (λ e. rw e refl)
+
+  mark-wanted :
+      (v place : ℕ) (b a : Condition)
+      → mark also v place (at k s) (read b) (read a) ≡ mark also v place (at k s) (counts also (known at b s)) (counts also (known at a s))
+  unfolding mark isEmpty
+  mark-wanted v place b a =
+      by-equal (at k s) 2 (λ e. rw (wanted-counts e b, wanted-counts e a)) (λ n. rw (ne-eqb (at k s) 2 n))
 
 -- mark 1 stands at place 2 only
 inner-joins :
@@ -190,31 +229,37 @@ module _ (m : List ℕ) (t : Table) (ready : Ready m t) (n k : ℕ) (g : Growth)
 
   -- the cells that are read, at a state
   module _ (s : ℕ) (l : s < size J) where
-    abbrev cell-in : ℕ → Type 0
-    cell-in j = Lent m t × IsCell J n s j
+    wanted-cell : (c : Condition) → AsksSmaller k c → (w : WantedCell) → w ≡ wanted k c → IsCell J n s (w .operand)
+    wanted-cell c o w e =
+        record { node-in = here .0; state-in = l; subformula-in = rw e (wanted-in k (subformulaCount J) (here .1) c o) }
 
-    pub own-cell : cell-in k
-    own-cell = (ready .lent, record { node-in = here .0; state-in = l; subformula-in = here .1 })
-
-    -- a condition of the rule asks for cells of the job
-    abbrev asked-in : Condition → Type 0
-    asked-in c = Lent m t × ((n < J .nodes) × (s < size J) × AsksSmaller (subformulaCount J) c)
-
-    pub start-asked : asked-in (g .start)
+    pub cells-read :
+        (start grow : WantedCell)
+        → start ≡ wanted k (g .start)
+        → grow ≡ wanted k (g .grow)
+        → Lent m t × (IsCell J n s k × IsCell J n s (start .operand) × IsCell J n s (grow .operand))
     unfolding InRange
-    start-asked = (ready .lent, (here .0, l, asks-up k (subformulaCount J) (g .start) (here .1) (here .2 .0)))
+    cells-read start grow e f = (
+      ready .lent,
+      (
+        record { node-in = here .0; state-in = l; subformula-in = here .1 },
+        wanted-cell (g .start) (here .2 .0) start e,
+        wanted-cell (g .grow) (here .2 .1) grow f,
+      ),
+    )
 
-    pub grow-asked : asked-in (g .grow)
-    unfolding InRange
-    grow-asked = (ready .lent, (here .0, l, asks-up k (subformulaCount J) (g .grow) (here .1) (here .2 .1)))
-
-  -- a state's mark by the cells that were read
+  -- a state's mark by the cells that the conditions want
   pub mark-read :
-      (s : ℕ) {x p o b w : ℕ} → x ≡ mark also (g .value) p o b w → p ≡ placeOf J n s → o ≡ cell J t n s k
-      → b ≡ known (cellsOf J t n) (g .start) s
-      → w ≡ known (cellsOf J t n) (g .grow) s
+      (s : ℕ) {x : ℕ} {start grow : WantedCell}
+      → x ≡ markBy J t n s k (g .value) start grow also
+      → start ≡ wanted k (g .start)
+      → grow ≡ wanted k (g .grow)
       → x ≡ markAt J t n k g also s
-  mark-read s e a b c d = rw (sym a, sym b, sym c, sym d) e
+  unfolding cell
+  mark-read s e start grow =
+      rw (start, grow) at e
+      ∙ mark-wanted (cellsOf J t n) s k also (λ j. right-is J t (ready .right) .small (index J n s j)) (here .3) (g .value) (placeOf J n s)
+      (g .start) (g .grow)
 
   -- outside the fragment a cell is empty, and a state not inner
   outside-mark : (s : ℕ) → s < size J → inFragment J n s ≡ false → markAt J t n k g also s ≡ also
@@ -236,10 +281,8 @@ module _ (m : List ℕ) (t : Table) (ready : Ready m t) (n k : ℕ) (g : Growth)
         let apart : also ≡ 1 → ⊥ = λ e. omega arith in
         joinable J (ready .lent .image .is-job) n (markAt J t n k g also) also marks done apart
         (λ s.
-        let b = known (cellsOf J t n) (g .start) s in
-        let w = known (cellsOf J t n) (g .grow) s in
         inner-joins also apart (eqb (cell J t n s k) (g .value)) (isEmpty (cell J t n s k)) (eqb (placeOf J n s) 2)
-        (eqb b 1 || eqb b also) (eqb w 1 || eqb w also))
+        (counts also (known (cellsOf J t n) (g .start) s)) (counts also (known (cellsOf J t n) (g .grow) s)))
 
     pub marks-set : (after : List ℕ) → Spread (J .structure) (quantifier (g .all)) marks after → IsSet J t n k g also after
     unfolding size grows spreadRule

@@ -10,6 +10,8 @@ use Rattle.law.specs.Fixpoint.{member, least}
 use Rattle.law.specs.Fixpoint as fixpoint
 use Rattle.job.specs.Job.{Job, over, size}
 use Rattle.job.specs.Rule.{quantifier}
+use Rattle.job.specs.declared.rule.Condition.{Condition}
+use Rattle.job.specs.declared.rule.Condition.the-variants.{Always, Holds, Fails}
 use Rattle.job.specs.declared.rule.Rule.{Rule}
 use Rattle.job.specs.declared.rule.Rule.the-variants.{Sets}
 use Rattle.cells.specs.Fragment.{inFragment}
@@ -19,26 +21,44 @@ use Rattle.image.specs.Image.{placeOf, rank, fragmentSize, fragmentState}
 use Rattle.table.specs.Column.{cellsOf}
 use Rattle.table.specs.Filling.{Values}
 use Rattle.sets.specs.declared.sets.Growth.{Growth}
+use Rattle.sets.specs.declared.sets.WantedCell.{WantedCell}
 
 -- The rule that grows so.
 abbrev pub ruleBy : Growth → Rule
 ruleBy g = Sets (g .all) (g .start) (g .grow) (g .value)
 
 -- A state's mark by its place, its own cell and whether it starts and may grow: 2 where it starts in the set, 1 where it may join, else
--- another. What is `also` counts as met beside what is 1: with 3 nothing does, which gives the smallest set; with 2 what is not known
--- yet, which gives what the largest leaves out.
-unfoldable pub mark : ℕ → ℕ → ℕ → ℕ → ℕ → ℕ → ℕ
-mark also v place own start grow =
-    cond (eqb own v) 2
-    (cond (isEmpty own)
-    (cond (eqb place 2) (cond (eqb start 1 || eqb start also) 2 (cond (eqb grow 1 || eqb grow also) 1 0)) also)
-    0)
+-- another.
+unfoldable pub mark : ℕ → ℕ → ℕ → ℕ → Bool → Bool → ℕ
+mark also v place own starts grows =
+    cond (eqb own v) 2 (cond (isEmpty own) (cond (eqb place 2) (cond starts 2 (cond grows 1 0)) also) 0)
+
+-- What is `also` counts as met beside what is 1: with 3 nothing does, which gives the smallest set; with 2 what is not known yet, which
+-- gives what the largest leaves out.
+abbrev pub counts : ℕ → ℕ → Bool
+counts also x = eqb x 1 || eqb x also
+
+-- The cell that a condition of subformula k reads where the cell of k is empty, and its value where the condition is met.
+abbrev pub wanted : ℕ → Condition → WantedCell
+wanted k Always = record { operand = k; value = 2 }
+wanted k (Holds a) = record { operand = a; value = 1 }
+wanted k (Fails a) = record { operand = a; value = 0 }
+
+-- A state's mark by the cells that are wanted.
+abbrev pub isWanted : ℕ → WantedCell → ℕ → Bool
+isWanted also w c = eqb c (w .value) || eqb c also
+
+abbrev pub markBy : Job → Table → ℕ → ℕ → ℕ → ℕ → WantedCell → WantedCell → ℕ → ℕ
+markBy J t n s k v start grow also =
+    mark also v (placeOf J n s) (cell J t n s k) (isWanted also start (cell J t n s (start .operand)))
+    (isWanted also grow (cell J t n s (grow .operand)))
 
 -- The column of node n and subformula k, over the cells of the table t: the marks by state, and how a set grows by them.
 module _ (J : Job) (t : Table) (n k : ℕ) (g : Growth) (also : ℕ) where
   abbrev pub markAt : ℕ → ℕ
   markAt s =
-      mark also (g .value) (placeOf J n s) (cell J t n s k) (known (cellsOf J t n) (g .start) s) (known (cellsOf J t n) (g .grow) s)
+      mark also (g .value) (placeOf J n s) (cell J t n s k) (counts also (known (cellsOf J t n) (g .start) s))
+      (counts also (known (cellsOf J t n) (g .grow) s))
 
   unfoldable pub grows : fixpoint.Rule
   grows X s = eqb (markAt s) 2 || (eqb (markAt s) 1 && over (J .structure) (quantifier (g .all)) s X)

@@ -5,11 +5,10 @@ ghost use Prim.Native.Nat.{_<_, _≤_};
 ghost use Rattle.job.specs.Job.{subformulaCount};
 ghost use Rattle.job.specs.Rule.{InRange};
 ghost use Rattle.image.specs.Image.{jobOf};
-ghost use Rattle.table.specs.Lent.{Lent, Ready};
+ghost use Rattle.table.specs.Lent.{Lent, Ready, IsCell};
 ghost use Rattle.table.specs.Filling.{Leaves, part, ofColumn};
 ghost use Rattle.table.specs.Column.{stepBy};
-ghost use Rattle.sets.specs.Marks.{ruleBy, mark as markOf, IsSet, hasEmpty, setValue, setValues};
-use crate::condition::known;
+ghost use Rattle.sets.specs.Marks.{ruleBy, wanted as wantedOf, markBy, IsSet, hasEmpty, setValue, setValues};
 use image::image::Image;
 use image::image::fragment_size;
 use image::image::fragment_state;
@@ -28,23 +27,65 @@ pub struct Growth {
     pub value: u8,
 }
 
-// A state's mark: 2 where it starts in the set, 1 where it may join, else another. What is `also` counts as met beside what is 1.
-fn mark(also: u8, v: u8, place: u16, own: u8, start: u8, grow: u8) -> u8
-    ensures { λ r. ⌜ r ≡ markOf also v place own start grow ⌝ }
+// A condition as one number to read: at a state whose cell of subformula k is empty it is met where the cell of `operand` is `value`.
+struct WantedCell {
+    operand: usize,
+    value: u8,
+}
+
+// What is always met is that the empty cell is empty.
+fn wanted(k: usize, c: Condition) -> WantedCell
+    ensures { λ r. ⌜ r ≡ wantedOf k c ⌝ }
 {
+    match c {
+        Condition::Always => WantedCell {
+            operand: k,
+            value: 2,
+        },
+        Condition::Holds(a) => WantedCell {
+            operand: a,
+            value: 1,
+        },
+        Condition::Fails(a) => WantedCell {
+            operand: a,
+            value: 0,
+        },
+    }
+}
+
+// The mark of state s: 2 where it starts in the set, 1 where it may join, else another. Cells that are `also` count beside those that are
+// wanted. Most cells of a column are filled, and their states are done with one look.
+fn mark(
+    m: &Image,
+    table: &[u8],
+    n: usize,
+    s: usize,
+    k: usize,
+    v: u8,
+    start: WantedCell,
+    grow: WantedCell,
+    also: u8,
+) -> u8
+    requires { ⌜ Lent (now m) (now table) ⌝ }
+    requires { ⌜ IsCell (jobOf (now m)) n s k × IsCell (jobOf (now m)) n s (start .operand) × IsCell (jobOf (now m)) n s (grow .operand) ⌝ }
+    ensures { λ r. ⌜ r ≡ markBy (jobOf (now (m .entry))) (now (table .entry)) n s k v start grow also ⌝ }
+{
+    let own = cell(m, table, n, s, k);
     if own == v {
         return 2;
     }
     if own != 2 {
         return 0;
     }
-    if place != 2 {
+    if place(m, n, s) != 2 {
         return also;
     }
-    if (start == 1) | (start == also) {
+    let b = cell(m, table, n, s, start.operand);
+    if (b == start.value) | (b == also) {
         return 2;
     }
-    if (grow == 1) | (grow == also) {
+    let a = cell(m, table, n, s, grow.operand);
+    if (a == grow.value) | (a == also) {
         return 1;
     }
     0
@@ -57,16 +98,14 @@ fn set_of(m: &Image, table: &[u8], n: usize, k: usize, g: Growth, also: u8) -> [
     requires { ⌜ (n < jobOf (now m) .nodes) × (k < subformulaCount (jobOf (now m))) × InRange k (ruleBy g) × (2 ≤ also) ⌝ }
     ensures { λ r. ⌜ IsSet (jobOf (now (m .entry))) (now (table .entry)) n k g also r ⌝ }
 {
-    let start = g.start;
-    let grow = g.grow;
+    let condition = g.start;
+    let start = wanted(k, condition);
+    let condition = g.grow;
+    let grow = wanted(k, condition);
     let mut marks = [also; 256];
     for i in 0..fragment_size(m, n) {
         let s = fragment_state(m, n, i);
-        let at = place(m, n, s);
-        let own = cell(m, table, n, s, k);
-        let starts = known(m, table, n, s, start);
-        let grows = known(m, table, n, s, grow);
-        marks[s] = mark(also, g.value, at, own, starts, grows);
+        marks[s] = mark(m, table, n, s, k, g.value, start, grow, also);
     }
     spread(m, n, g.all, &mut marks);
     marks

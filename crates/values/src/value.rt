@@ -19,7 +19,7 @@ use job::rule::Rule;
 use table::cell::cell;
 
 // The other value of a filled cell.
-pub fn opposite(a: u8) -> u8
+fn opposite(a: u8) -> u8
     ensures { λ r. ⌜ r ≡ oppositeOf a ⌝ }
 {
     if a == 2 {

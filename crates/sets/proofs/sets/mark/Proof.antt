@@ -1,31 +1,68 @@
--- `mark`: by its tests.
-use Rattle.sets.proofs.MarkLaws.{mark-own, mark-other, mark-border, mark-start, mark-grow, mark-no-join}
+-- `mark`: by its tests, over the cells that were read before each.
+use mathlib.Core.Path.{refl}
+use Rattle.sets.proofs.MarkLaws.{mark-own, mark-other, mark-border, mark-start, mark-grow, mark-no-join, marks-by}
+use borrow.Author.Needs.{needs}
 use Rattle.sets.proofs.sets.mark.Statement.{statement}
 use Rattle.sets.proofs.sets.mark.Tie as tie
 
 returns : tie.Need-returns
-returns c = mark-own _ _ _ _ _ _ (c .if1 .taken)
+returns c = marks-by _ _ _ _ _ _ _ _ _ (c .before .cell .ensures) refl refl refl (mark-own _ _ _ _ _ _ (c .if1 .taken))
 
 returns-2 : tie.Need-returns-2
-returns-2 c = mark-other _ _ _ _ _ _ (c .before .if1 .left) (c .if2 .taken)
+returns-2 c =
+    marks-by _ _ _ _ _ _ _ _ _ (c .before .before .cell .ensures) refl refl refl (mark-other _ _ _ _ _ _ (c .before .if1 .left) (c .if2 .taken))
+
+place-requires : tie.Need-place-requires
+place-requires c κs =
+    let pre = c .before .before .before .before .pre in (pre .0 .image, (pre .1 .0 .node-in, pre .1 .0 .state-in))
 
 returns-3 : tie.Need-returns-3
-returns-3 c = mark-border _ _ _ _ _ _ (c .before .before .if1 .left) (c .before .if2 .left) (c .if3 .taken)
+returns-3 c =
+    let e = c .before .before in
+    marks-by _ _ _ _ _ _ _ _ _ (e .before .before .cell .ensures) (c .before .place .ensures) refl refl
+    (mark-border _ _ _ _ _ _ (e .before .if1 .left) (e .if2 .left) (c .if3 .taken))
+
+cell-requires-2 : tie.Need-cell-requires-2
+cell-requires-2 c κs = let pre = c .before .before .before .before .before .before .pre in (pre .0, pre .1 .1)
 
 returns-4 : tie.Need-returns-4
 returns-4 c =
-    let p = c .before in
-    mark-start _ _ _ _ _ _ (p .before .before .if1 .left) (p .before .if2 .left) (p .if3 .left) (c .if4 .taken)
+    let b = c .before .before in
+    let p = b .before .before in
+    let e = p .before in
+    marks-by _ _ _ _ _ _ _ _ _ (e .before .before .cell .ensures) (p .place .ensures) (b .cell2 .ensures) refl
+    (mark-start _ _ _ _ _ _ (e .before .if1 .left) (e .if2 .left) (b .before .if3 .left) (c .if4 .taken))
+
+cell-requires-3 : tie.Need-cell-requires-3
+cell-requires-3 c κs = let pre = c .before .before .before .before .before .before .before .before .before .pre in (pre .0, pre .1 .2)
+
+-- after the last test
+module _ (c : tie.After-cell3) where
+  abbrev b-read : tie.After-cell2
+  b-read = c .before .before .before
+
+  abbrev place-read : tie.After-place
+  place-read = b-read .before .before
 
 returns-5 : tie.Need-returns-5
 returns-5 c =
-    let p = c .before .before in
-    mark-grow _ _ _ _ _ _ (p .before .before .if1 .left) (p .before .if2 .left) (p .if3 .left) (c .before .if4 .left) (c .if5 .taken)
+    let a = c .before .before in
+    let b = b-read a in
+    let p = place-read a in
+    let e = p .before in
+    marks-by _ _ _ _ _ _ _ _ _ (e .before .before .cell .ensures) (p .place .ensures) (b .cell2 .ensures) (a .cell3 .ensures)
+    (mark-grow _ _ _ _ _ _ (e .before .if1 .left) (e .if2 .left) (b .before .if3 .left) (a .before .if4 .left) (c .if5 .taken))
 
 returns-6 : tie.Need-returns-6
 returns-6 c =
-    let p = c .before .before in
-    mark-no-join _ _ _ _ _ _ (p .before .before .if1 .left) (p .before .if2 .left) (p .if3 .left) (c .before .if4 .left) (c .if5 .left)
+    let a = c .before .before in
+    let b = b-read a in
+    let p = place-read a in
+    let e = p .before in
+    marks-by _ _ _ _ _ _ _ _ _ (e .before .before .cell .ensures) (p .place .ensures) (b .cell2 .ensures) (a .cell3 .ensures)
+    (mark-no-join _ _ _ _ _ _ (e .before .if1 .left) (e .if2 .left) (b .before .if3 .left) (a .before .if4 .left) (c .if5 .left))
 
 pub mark-spec : {M : Type 1} → statement M
-mark-spec = tie.close (tie.spec returns returns-2 returns-3 returns-4 returns-5 returns-6)
+mark-spec =
+    let first = tie.spec (λ c κs. search needs) returns returns-2 place-requires returns-3 cell-requires-2 returns-4 cell-requires-3 in
+    tie.close (first returns-5 returns-6)

@@ -3,7 +3,7 @@ use Prim.Native.Nat.{_-_, _<_, _≤_}
 use mathlib.Core.Path.{_≡_}
 use Rattle.image.specs.Image.{jobOf, fragmentSize}
 use Rattle.sets.specs.Marks.{markAt, Marks}
-use Rattle.sets.proofs.MarkLaws.{marks-start, marks-more, marks-end, own-cell, start-asked, grow-asked, mark-read, marks-join, marks-set}
+use Rattle.sets.proofs.MarkLaws.{marks-start, marks-more, marks-end, cells-read, mark-read, marks-join, marks-set}
 use borrow.Author.Needs.{needs}
 use native.Mathlib.Omega.{arith}
 use Rattle.sets.proofs.sets.set_of.Statement.{statement}
@@ -15,58 +15,52 @@ Inv-loop m table n k g also start grow marks₀ i₀ i-end marks i = (i ≤ i-en
 abbrev μ-loop : tie.MeasureT-loop
 μ-loop m table n k g also start grow marks₀ i₀ i-end marks i = i-end - i
 
+-- the start, from where both conditions are cells that are wanted
+abbrev entered : tie.After-wanted2 Inv-loop μ-loop → tie.Start Inv-loop μ-loop
+entered c = c .before .before .before
+
 fragment-size-requires : tie.Need-fragment-size-requires Inv-loop μ-loop
-fragment-size-requires c κs = let pre = c .before .pre in (pre .0 .lent .image, pre .1 .0)
+fragment-size-requires c κs = let pre = entered c .pre in (pre .0 .lent .image, pre .1 .0)
 
 loop-holds : tie.Need-loop-holds Inv-loop μ-loop
-loop-holds c = let s = c .before .before in (omega arith, marks-start _ (s .pre .0 .lent .image .is-job) _ _ (s .args .also))
+loop-holds c = let s = entered (c .before) in (omega arith, marks-start _ (s .pre .0 .lent .image .is-job) _ _ (s .args .also))
 
 fragment-state-requires : tie.Need-fragment-state-requires Inv-loop μ-loop
 fragment-state-requires c κs =
-    let s = c .before .before .before .before in
+    let s = entered (c .before .before .before) in
     let below : c .before .loop .i < fragmentSize (jobOf (s .args .m .now)) (s .args .n) = omega arith in
     (s .pre .0 .lent .image, (s .pre .1 .0, below))
 
 -- a turn of the loop
+abbrev wants-of : tie.After-fragment-state Inv-loop μ-loop → tie.After-wanted2 Inv-loop μ-loop
+wants-of p = p .before .before .before .before
+
 abbrev start-of : tie.After-fragment-state Inv-loop μ-loop → tie.Start Inv-loop μ-loop
-start-of p = p .before .before .before .before .before
+start-of p = entered (wants-of p)
 
 below :
     (p : tie.After-fragment-state Inv-loop μ-loop)
     → p .before .before .loop .i < fragmentSize (jobOf (start-of p .args .m .now)) (start-of p .args .n)
 below p = omega arith
 
-place-requires : tie.Need-place-requires Inv-loop μ-loop
-place-requires c κs = let s = start-of c in (s .pre .0 .lent .image, (s .pre .1 .0, c .fragment-state .ensures .1))
-
-cell-requires : tie.Need-cell-requires Inv-loop μ-loop
-cell-requires c κs =
-    let p = c .before in
-    let s = start-of p in
-    own-cell _ _ (s .pre .0) _ _ (s .args .g) (s .args .also) (s .pre .1) _ (p .fragment-state .ensures .1)
-
-known-requires : tie.Need-known-requires Inv-loop μ-loop
-known-requires c κs =
-    let p = c .before .before in
-    let s = start-of p in
-    start-asked _ _ (s .pre .0) _ _ (s .args .g) (s .args .also) (s .pre .1) _ (p .fragment-state .ensures .1)
-
-known-requires-2 : tie.Need-known-requires-2 Inv-loop μ-loop
-known-requires-2 c κs =
-    let p = c .before .before .before in
-    let s = start-of p in
-    grow-asked _ _ (s .pre .0) _ _ (s .args .g) (s .args .also) (s .pre .1) _ (p .fragment-state .ensures .1)
+mark-requires : tie.Need-mark-requires Inv-loop μ-loop
+mark-requires c κs =
+    let s = start-of c in
+    let w = wants-of c in
+    cells-read _ _ (s .pre .0) _ _ (s .args .g) (s .args .also) (s .pre .1) _ (c .fragment-state .ensures .1) (w .before .wanted .result) (w .wanted2 .result)
+    (w .before .wanted .ensures) (w .wanted2 .ensures)
 
 array-write-marks : tie.Need-array-write-marks Inv-loop μ-loop
-array-write-marks c = c .before .before .before .before .before .fragment-state .ensures .2
+array-write-marks c = c .before .fragment-state .ensures .2
 
 loop-again : tie.Need-loop-again Inv-loop μ-loop
 loop-again c =
-    let p = c .before .before .before .before .before in
+    let p = c .before in
     let l = p .before .before .loop in
     let s = start-of p in
+    let w = wants-of p in
     let read = mark-read _ _ (s .pre .0) _ _ (s .args .g) (s .args .also) (s .pre .1) (p .fragment-state .result) (c .mark .ensures)
-    (c .before .before .before .before .place .ensures) (c .before .before .before .cell .ensures) (c .before .before .known .ensures) (c .before .known2 .ensures) in (
+    (w .before .wanted .ensures) (w .wanted2 .ensures) in (
       omega arith,
       marks-more _ (s .pre .0 .lent .image .is-job) _ _ (s .args .also) (l .i) (below p) (p .fragment-state .result) (p .fragment-state .ensures .0)
           (c .mark .result) read (l .marks) (l .inv .1),
@@ -75,7 +69,7 @@ loop-again c =
 -- the loop is over
 module _ (c : tie.After-marks Inv-loop μ-loop) where
   abbrev begun : tie.Start Inv-loop μ-loop
-  begun = c .before .before .before .before .before
+  begun = entered (c .before .before .before .before)
 
   all-marked :
       let a = begun .args in
@@ -98,6 +92,6 @@ returns c =
 
 pub set-of-spec : {M : Type 1} → statement M
 set-of-spec =
-    let first = tie.spec Inv-loop μ-loop fragment-size-requires loop-holds fragment-state-requires place-requires cell-requires known-requires in
-    let second = first known-requires-2 (λ c κs. search needs) array-write-marks (λ c. omega arith) (λ c. omega arith) loop-again spread-requires in
+    let first = tie.spec Inv-loop μ-loop (λ c κs. search needs) (λ c κs. search needs) fragment-size-requires loop-holds fragment-state-requires in
+    let second = first mark-requires array-write-marks (λ c. omega arith) (λ c. omega arith) loop-again spread-requires in
     tie.close (second returns)
