@@ -48,12 +48,12 @@ enum {
     SELAHMUR_BAD_STATE = 5,         /* an owner that is no node, or a label above 65,535 */
     SELAHMUR_BAD_EDGE = 6,          /* an end that is no state, or a pair that is not greater than the pair before */
     SELAHMUR_NO_EDGE_OUT = 7,       /* the state of this line has no edge out */
-    SELAHMUR_BAD_SUBFORMULA = 8,    /* a kind that is not 1 to 7, or operands that do not fit the kind */
+    SELAHMUR_BAD_SUBFORMULA = 8,    /* a kind that is not 1 to 9, or operands that do not fit the kind */
     SELAHMUR_TABLE_LENGTH = 9,      /* the table has not nodes * states * subformulas bytes */
     SELAHMUR_TABLE_CELLS = 10,      /* a byte above 2, or a filled cell outside the node's fragment */
     SELAHMUR_NO_SUCH_NODE = 11,     /* the node is not below the number of nodes (look: nor SELAHMUR_NO_NODE) */
     SELAHMUR_NO_SUCH_CELL = 12,     /* no such state, or no such subformula */
-    SELAHMUR_NOT_TEMPORAL = 13,     /* the subformula is not of kind 4 to 7 */
+    SELAHMUR_NOT_TEMPORAL = 13,     /* the subformula is not of kind 4 to 9 */
     SELAHMUR_OWNER_EMPTY = 14,      /* the owner's cell is empty */
     SELAHMUR_BAD_VALUE = 15,        /* the message's value is neither 0 nor 1 */
     SELAHMUR_NOT_BORDER = 16,       /* the state is not a border state of the node's fragment */
@@ -120,7 +120,8 @@ void selahmur_accept(const uint8_t *text, size_t text_length, uint8_t *table, si
 void selahmur_look(const uint8_t *text, size_t text_length, const uint8_t *table, size_t table_length, size_t node, size_t state,
                    size_t subformula, size_t *answer, size_t answer_length);
 
-/* On a settled table, makes every empty cell of the smallest subformula that is open at some owner false. Refusals 1 to 10, 19 and 20.
+/* On a settled table, fills every empty cell of the smallest subformula that is open at some owner: with 0 if it is an until (kinds 6 and 7),
+ * with 1 if it is EG or AG (kinds 8 and 9). Refusals 1 to 10, 19 and 20.
  * Answer: number, line, that subformula, how many cells are filled. */
 void selahmur_close(const uint8_t *text, size_t text_length, uint8_t *table, size_t table_length, size_t *answer, size_t answer_length);
 
@@ -131,8 +132,8 @@ void selahmur_finish(const uint8_t *text, size_t text_length, uint8_t *table, si
 
 /* Reads a rule as text, of at most 512 bytes, and writes its lines, a job's subformula lines, from the start of the buffer on, which has exactly
  * 512 bytes. Each line takes 16 bytes, byte 10 among them; the last one is the whole rule's. Bytes behind the lines stay. Refusals 21 to 23.
- * Atoms are p0 to p15. Prefix !, AX and EX bind tightest, then come &, | and =>, weaker in this order; & and | group to the left, => to the
- * right. A[f U g], E[f U g] and (f) are closed forms. f | g becomes not(not f and not g), and f => g becomes not(f and not g). Spaces may stand
+ * Atoms are p0 to p15. Prefix !, AX, EX, EG and AG bind tightest, then come &, | and =>, weaker in this order; & and | group to the left, =>
+ * to the right. A[f U g], E[f U g] and (f) are closed forms. f | g becomes not(not f and not g), and f => g becomes not(f and not g). Spaces may stand
  * before, between and after tokens and must stand between two of letters or digits; nothing else may, byte 10 neither.
  * Answer: number, line (0), how many lines. */
 void selahmur_rule(const uint8_t *text, size_t text_length, uint8_t *buffer, size_t buffer_length, size_t *answer, size_t answer_length);

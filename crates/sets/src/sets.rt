@@ -27,7 +27,7 @@ pub struct Growth {
     pub value: u8,
 }
 
-// A condition as one number to read: at a state whose cell of subformula k is empty it is met where the cell of `operand` is `value`.
+// A condition as one cell to read: at a state whose cell of subformula k is empty it is met where the cell of `operand` is `value`.
 struct WantedCell {
     operand: usize,
     value: u8,
@@ -54,7 +54,7 @@ fn wanted(k: usize, c: Condition) -> WantedCell
 }
 
 // The mark of state s: 2 where it starts in the set, 1 where it may join, else another. Cells that are `also` count beside those that are
-// wanted. Most cells of a column are filled, and their states are done with one look.
+// wanted. The state of a filled cell is done with one look.
 fn mark(
     m: &Image,
     table: &[u8],
