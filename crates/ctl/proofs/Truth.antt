@@ -7,47 +7,25 @@ use mathlib.Core.Bool.{Bool, true, true≢false}
 use mathlib.Core.List.{List}
 use mathlib.Core.Logic.{_↔_}
 use Rattle.law.proofs.Bool.{and-intro, and-left, and-right}
-use Rattle.job.specs.Job.{Structure, Quantifier, forAll, exists, dual, subformula}
+use Rattle.job.specs.Job.{Structure, forAll, exists, dual, subformula}
 use Rattle.job.specs.Formula.{renamed}
 use Rattle.job.specs.Rule.{ruleOf, InRange}
 use Rattle.job.specs.Written.{Operands}
 use Rattle.job.specs.declared.subformula.Subformula.{Subformula}
 use Rattle.job.specs.declared.subformula.Subformula.the-variants.{Atom, Not, And, Ax, Ex, Au, Eu, Eg, Ag}
 use Rattle.job.proofs.Successors.{over-all, over-some}
-use Rattle.ctl.specs.Truth.{Predicate, HasEdge, Walk, Until, Throughout, OnWalks, meaning, truthUpTo, Holds}
+use Rattle.ctl.specs.Truth.{Predicate, HasEdge, meaning, truthUpTo, Holds}
 use Rattle.ctl.specs.Labelling.{labelled, labelling, sat}
 use Rattle.ctl.proofs.Total.{State, Total}
-use Rattle.ctl.proofs.Walks.{on-walks-map}
+use Rattle.ctl.proofs.Walks.{until-same, throughout-same}
 use Rattle.ctl.proofs.Untils.{Decides, not-decides, walks-reached, throughout-outside}
-
--- A line whose operands are renamed says the same, where what the operands say is the same: kind by kind.
-module _ (M : Structure) (A B A′ B′ : Predicate) (a : (s : ℕ) → A s → A′ s) (b : (s : ℕ) → B s → B′ s) where
-  until-map : (s : ℕ) (w : Walk M s) → Until M A B s w → Until M A′ B′ s w
-  until-map s w u =
-      record { place = u .place; reached = b (w .at (u .place)) (u .reached); before = λ i h. a (w .at i) (u .before i h) }
 
 -- Predicates P of subformulas below k and Q of their new names below j agree along ρ.
 abbrev pub Along : (ℕ → ℕ) → ℕ → ℕ → (ℕ → Predicate) → (ℕ → Predicate) → Type 0
 Along ρ k j P Q = (a : ℕ) → a < k → ρ a < j → (s : ℕ) → P a s ↔ Q (ρ a) s
 
+-- A line whose operands are renamed says the same, where what the operands say is the same: kind by kind.
 module _ (M : Structure) (ρ : ℕ → ℕ) (k j : ℕ) (P Q : ℕ → Predicate) (same : Along ρ k j P Q) where
-  until-renamed :
-      (q : Quantifier) (a b : ℕ) → a < k → b < k → ρ a < j → ρ b < j → (s : ℕ)
-      → OnWalks M q s (Until M (P a) (P b) s) ↔ OnWalks M q s (Until M (Q (ρ a)) (Q (ρ b)) s)
-  until-renamed q a b l r l′ r′ s = (
-    on-walks-map M s _ _ q (until-map M (P a) (P b) (Q (ρ a)) (Q (ρ b)) (λ t. same a l l′ t .0) (λ t. same b r r′ t .0) s),
-    on-walks-map M s _ _ q (until-map M (Q (ρ a)) (Q (ρ b)) (P a) (P b) (λ t. same a l l′ t .1) (λ t. same b r r′ t .1) s),
-  )
-
-  throughout-renamed :
-      (q : Quantifier) (a : ℕ) → a < k → ρ a < j → (s : ℕ)
-      → OnWalks M q s (Throughout M (P a) s) ↔ OnWalks M q s (Throughout M (Q (ρ a)) s)
-  unfolding Throughout
-  throughout-renamed q a l l′ s = (
-    on-walks-map M s _ _ q (λ w h i. same a l l′ (w .at i) .0 (h i)),
-    on-walks-map M s _ _ q (λ w h i. same a l l′ (w .at i) .1 (h i)),
-  )
-
   pub meaning-renamed :
       (g : Subformula) → Operands k g → Operands j (renamed ρ g) → (s : ℕ) → meaning M P g s ↔ meaning M Q (renamed ρ g) s
   unfolding meaning renamed InRange
@@ -59,10 +37,10 @@ module _ (M : Structure) (ρ : ℕ → ℕ) (k j : ℕ) (P Q : ℕ → Predicate
   )
   meaning-renamed (Ax a) o p s = (λ h t e. same a o p t .0 (h t e), λ h t e. same a o p t .1 (h t e))
   meaning-renamed (Ex a) o p s = (λ (t, e, x). (t, e, same a o p t .0 x), λ (t, e, x). (t, e, same a o p t .1 x))
-  meaning-renamed (Au a b) (q, o, v) (r, p, v′) s = until-renamed forAll a b o q p r s
-  meaning-renamed (Eu a b) (q, o, v) (r, p, v′) s = until-renamed exists a b o q p r s
-  meaning-renamed (Eg a) o p s = throughout-renamed exists a (o .0) (p .0) s
-  meaning-renamed (Ag a) o p s = throughout-renamed forAll a (o .0) (p .0) s
+  meaning-renamed (Au a b) (q, o, v) (r, p, v′) s = until-same M _ s _ _ _ _ (λ w i. same a o p (w .at i)) (λ w i. same b q r (w .at i))
+  meaning-renamed (Eu a b) (q, o, v) (r, p, v′) s = until-same M _ s _ _ _ _ (λ w i. same a o p (w .at i)) (λ w i. same b q r (w .at i))
+  meaning-renamed (Eg a) o p s = throughout-same M _ s _ _ (λ w i. same a (o .0) (p .0) (w .at i))
+  meaning-renamed (Ag a) o p s = throughout-same M _ s _ _ (λ w i. same a (o .0) (p .0) (w .at i))
 
 module _ (M : Structure) (total : Total M) where
   -- Where Bools decide what the operands say, the label decides what the subformula says.

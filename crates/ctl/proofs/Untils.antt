@@ -3,7 +3,7 @@
 -- until. Assumes nothing.
 use Prim.Native.Nat.{ℕ, zero, suc, _<_}
 use mathlib.Core.Path.{_≡_, refl}
-use mathlib.Core.Bool.{Bool, true, false, not}
+use mathlib.Core.Bool.{Bool, true, not}
 use mathlib.Core.Logic.{_↔_}
 use native.Mathlib.Omega.{arith}
 use borrow.Author.Tests.{not-true}
@@ -31,6 +31,9 @@ module _
     (M : Structure) (total : Total M)
     (start grow : ℕ → Bool) (A B : Predicate) (a : Decides M A grow) (b : Decides M B start)
   where
+    abbrev Never : (s : ℕ) → Walk M s → Type 0
+    Never s w = Until M A B s w → ⊥
+
     -- From the set to the walks, by induction over it.
     all-walks : (s : ℕ) → reached M forAll start grow s ≡ true → (w : Walk M s) → Until M A B s w
     unfolding HasEdge
@@ -109,55 +112,52 @@ module _
       reached-walks q s,
     )
 
--- A holds throughout on some walk, or on all, where it is not so that on all walks, or on some, a state comes at which A fails.
+    -- outside the set there are that many walks on which no until holds
+    pub walks-outside :
+        (q : Quantifier) (s : ℕ) → State M s → OnWalks M (dual q) s (Never s) ↔ (not (reached M q start grow s) ≡ true)
+    walks-outside q s l =
+        let inside = reached M q start grow s in (
+          (λ never.
+              split inside
+              (λ t. let (w, u, apart) = walks-share M s (Until M A B s) (Never s) q (reached-walks q s t) never in absurd (apart u))
+              (not-is-true inside)),
+          (λ e.
+              on-walks-map M s (LeadsBack q s) (Never s) (dual q)
+              (λ w leads u. clash inside (until-reached q s w leads u) (not-true inside e)) (back-walks q s l)),
+        )
+
+-- A holds throughout a walk on which no state comes at which it fails: so what holds throughout is the opposite of an until.
 module _ (M : Structure) (total : Total M) (p : ℕ → Bool) (A : Predicate) (a : Decides M A p) where
+  abbrev Anywhere : Predicate
+  Anywhere s = Unit {0}
+
   abbrev Fails : Predicate
   Fails s = A s → ⊥
 
   abbrev fails : ℕ → Bool
   fails s = not (p s)
 
-  abbrev Anywhere : Predicate
-  Anywhere s = Unit {0}
-
-  abbrev anywhere : ℕ → Bool
-  anywhere s = true
-
-  anywhere-decides : Decides M Anywhere anywhere
-  anywhere-decides s l = (λ u. refl, λ e. tt)
-
   fails-decides : Decides M Fails fails
   fails-decides s l = not-decides (A s) (p s) (a s l)
 
-  -- a walk that leads back to a state outside the set meets no state at which A fails
-  back-throughout :
-      (q : Quantifier) (s : ℕ) → reached M q fails anywhere s ≡ false → (w : Walk M s)
-      → LeadsBack M total fails anywhere Anywhere Fails anywhere-decides fails-decides q s w
-      → Throughout M A s w
+  throughout-never : (s : ℕ) (w : Walk M s) → Throughout M A s w → Until M Anywhere Fails s w → ⊥
   unfolding Throughout
-  back-throughout q s outside w leads i =
+  throughout-never s w h u = u .reached (h (u .place))
+
+  never-throughout : (s : ℕ) (w : Walk M s) → (Until M Anywhere Fails s w → ⊥) → Throughout M A s w
+  unfolding Throughout
+  never-throughout s w never i =
       let t = w .at i in
       let l = walk-state M total s w i in
       split (p t) (a t l .1)
-      (λ no.
-      clash (reached M q fails anywhere s)
-      (until-reached M total fails anywhere Anywhere Fails anywhere-decides fails-decides q s w leads
-      (record { place = i; reached = fails-decides t l .1 (not-is-true (p t) no); before = λ j h. tt }))
-      outside)
+      (λ f. absurd (never (record { place = i; reached = fails-decides t l .1 (not-is-true (p t) f); before = λ j h. tt })))
 
   pub throughout-outside :
-      (q : Quantifier) (s : ℕ) → State M s → OnWalks M (dual q) s (Throughout M A s) ↔ (not (reached M q fails anywhere s) ≡ true)
-  unfolding Throughout
-  throughout-outside q s l = (
-    (λ throughout.
-        split (reached M q fails anywhere s)
-        (λ t.
-        let until = reached-walks M total fails anywhere Anywhere Fails anywhere-decides fails-decides q s t in
-        let (w, u, h) = walks-share M s (Until M Anywhere Fails s) (Throughout M A s) q until throughout in
-        absurd (u .reached (h (u .place))))
-        (not-is-true (reached M q fails anywhere s))),
-    (λ e.
-        let outside = not-true (reached M q fails anywhere s) e in
-        on-walks-map M s _ (Throughout M A s) (dual q) (back-throughout q s outside)
-        (back-walks M total fails anywhere Anywhere Fails anywhere-decides fails-decides q s l)),
-  )
+      (q : Quantifier) (s : ℕ)
+      → State M s
+      → OnWalks M (dual q) s (Throughout M A s) ↔ (not (reached M q fails (λ t. true) s) ≡ true)
+  throughout-outside q s l =
+      let outside = walks-outside M total fails (λ t. true) Anywhere Fails (λ t h. (λ u. refl, λ e. tt)) fails-decides q s l in (
+        (λ h. outside .0 (on-walks-map M s _ _ (dual q) (throughout-never s) h)),
+        (λ e. on-walks-map M s _ _ (dual q) (never-throughout s) (outside .1 e)),
+      )

@@ -2,9 +2,10 @@
 -- rule for ever; and what holds on all walks or on some. Assumes nothing.
 use Prim.Native.Nat.{ℕ, zero, suc, _<_}
 use mathlib.Core.Path.{_≡_, refl, subst}
+use mathlib.Core.Logic.{_↔_}
 use native.Mathlib.Nat.{not-suc-le-zero, le-of-suc-le-suc}
 use Rattle.job.specs.Job.{Structure, Quantifier, forAll, exists, dual}
-use Rattle.ctl.specs.Truth.{Predicate, HasEdge, Walk, Until, OnWalks}
+use Rattle.ctl.specs.Truth.{Predicate, HasEdge, Walk, Until, Throughout, OnWalks}
 use Rattle.ctl.proofs.Total.{State, Total}
 
 -- A walk without its first state, and one with a state before it.
@@ -51,6 +52,31 @@ module _ (M : Structure) (A B : Predicate) where
       earlier : (i : ℕ) → i < suc (u .place) → A (w .at i)
       earlier zero h = rw (w .starts) a
       earlier (suc i) h = subst A (same i) (u .before i (le-of-suc-le-suc h))
+
+-- On that many walks the same holds where the same holds at their places.
+module _ (M : Structure) (q : Quantifier) (s : ℕ) where
+  abbrev SameAt : Predicate → Predicate → Type 0
+  SameAt A B = (w : Walk M s) (i : ℕ) → A (w .at i) ↔ B (w .at i)
+
+  until-map :
+      (A B C D : Predicate) (w : Walk M s)
+      → ((i : ℕ) → A (w .at i) → C (w .at i))
+      → ((i : ℕ) → B (w .at i) → D (w .at i))
+      → Until M A B s w
+      → Until M C D s w
+  until-map A B C D w a b u =
+      record { place = u .place; reached = b (u .place) (u .reached); before = λ i h. a i (u .before i h) }
+
+  pub until-same :
+      (A B C D : Predicate) → SameAt A C → SameAt B D → OnWalks M q s (Until M A B s) ↔ OnWalks M q s (Until M C D s)
+  until-same A B C D a b = (
+    on-walks-map M s _ _ q (λ w. until-map A B C D w (λ i. a w i .0) (λ i. b w i .0)),
+    on-walks-map M s _ _ q (λ w. until-map C D A B w (λ i. a w i .1) (λ i. b w i .1)),
+  )
+
+  pub throughout-same : (A B : Predicate) → SameAt A B → OnWalks M q s (Throughout M A s) ↔ OnWalks M q s (Throughout M B s)
+  unfolding Throughout
+  throughout-same A B a = (on-walks-map M s _ _ q (λ w h i. a w i .0 (h i)), on-walks-map M s _ _ q (λ w h i. a w i .1 (h i)))
 
 -- The places of a walk are states, and a rule that has a next state for each state gives a walk that follows it for ever.
 module _ (M : Structure) (total : Total M) where

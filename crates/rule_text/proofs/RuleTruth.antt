@@ -12,10 +12,10 @@ use Rattle.job.specs.Job.{Structure, Quantifier, forAll, exists, subformula}
 use Rattle.job.specs.declared.subformula.Subformula.{Subformula}
 use Rattle.job.specs.declared.subformula.Subformula.the-variants.{Atom, And, Au, Eu}
 use Rattle.job.specs.declared.subformula.Subformula.the-variants as kind
-use Rattle.ctl.specs.Truth.{Predicate, Walk, Until, Throughout, OnWalks, meaning, truthUpTo, Holds}
+use Rattle.ctl.specs.Truth.{Predicate, Walk, Until, OnWalks, meaning, truthUpTo, Holds}
 use Rattle.ctl.specs.Labelling.{sat}
 use Rattle.ctl.proofs.Total.{State, Total}
-use Rattle.ctl.proofs.Walks.{walk-state, on-walks-map}
+use Rattle.ctl.proofs.Walks.{until-same, throughout-same, walk-state}
 use Rattle.ctl.proofs.Truth.{holds-sat}
 use Rattle.rule_text.specs.declared.token.Prefix.{Prefix}
 use Rattle.rule_text.specs.declared.token.Prefix.the-variants.{Not, Ax, Ex, Eg, Ag}
@@ -64,14 +64,9 @@ module _ (M : Structure) (total : Total M) where
   abbrev Same : Predicate → Predicate → Type 0
   Same A B = (s : ℕ) → State M s → A s ↔ B s
 
-  -- Over walks too, since their places are states.
-  throughout-same :
-      (q : Quantifier) (A B : Predicate) → Same A B → Same (λ s. OnWalks M q s (Throughout M A s)) (λ s. OnWalks M q s (Throughout M B s))
-  unfolding Throughout
-  throughout-same q A B h s l = (
-    on-walks-map M s _ _ q (λ w g i. h (w .at i) (walk-state M total s w i) .0 (g i)),
-    on-walks-map M s _ _ q (λ w g i. h (w .at i) (walk-state M total s w i) .1 (g i)),
-  )
+  -- So at the places of a walk, which are states.
+  at-places : (A B : Predicate) → Same A B → (s : ℕ) (w : Walk M s) (i : ℕ) → A (w .at i) ↔ B (w .at i)
+  at-places A B h s w i = h (w .at i) (walk-state M total s w i)
 
   prefix-same : (p : Prefix) (A B : Predicate) → Same A B → Same (prefixed M p A) (prefixed M p B)
   unfolding prefixed
@@ -81,27 +76,15 @@ module _ (M : Structure) (total : Total M) where
     (λ (t, e, a). (t, e, h t (total .inside s t e .1) .0 a)),
     (λ (t, e, b). (t, e, h t (total .inside s t e .1) .1 b)),
   )
-  prefix-same Eg A B h s l = throughout-same _ A B h s l
-  prefix-same Ag A B h s l = throughout-same _ A B h s l
+  prefix-same Eg A B h s l = throughout-same M _ s A B (at-places A B h s)
+  prefix-same Ag A B h s l = throughout-same M _ s A B (at-places A B h s)
 
-  module _ (A B C D : Predicate) (a : Same A C) (b : Same B D) where
-    until-map : (s : ℕ) (w : Walk M s) → Until M A B s w → Until M C D s w
-    until-map s w u =
-        record {
-          place = u .place;
-          reached = b (w .at (u .place)) (walk-state M total s w (u .place)) .0 (u .reached);
-          before = λ i h. a (w .at i) (walk-state M total s w i) .0 (u .before i h);
-        }
-
-  until-same :
+  on-walks-same :
       (q : Quantifier) (A B C D : Predicate)
       → Same A C
       → Same B D
       → Same (λ s. OnWalks M q s (Until M A B s)) (λ s. OnWalks M q s (Until M C D s))
-  until-same q A B C D a b s l = (
-    on-walks-map M s _ _ q (until-map A B C D a b s),
-    on-walks-map M s _ _ q (until-map C D A B (λ t g. Iff·symm (a t g)) (λ t g. Iff·symm (b t g)) s),
-  )
+  on-walks-same q A B C D a b s l = until-same M q s A B C D (at-places A C a s) (at-places B D b s)
 
   -- A line is true where what it says is.
   meaning-says :
@@ -114,8 +97,8 @@ module _ (M : Structure) (total : Total M) where
   meaning-says A r h (And a b) = λ s l. Iff·and (h a s l) (h b s l)
   meaning-says A r h (kind.Ax a) = prefix-same Ax (A a) (BasicHolds M (r a)) (h a)
   meaning-says A r h (kind.Ex a) = prefix-same Ex (A a) (BasicHolds M (r a)) (h a)
-  meaning-says A r h (Au a b) = until-same forAll (A a) (A b) (BasicHolds M (r a)) (BasicHolds M (r b)) (h a) (h b)
-  meaning-says A r h (Eu a b) = until-same exists (A a) (A b) (BasicHolds M (r a)) (BasicHolds M (r b)) (h a) (h b)
+  meaning-says A r h (Au a b) = on-walks-same forAll (A a) (A b) (BasicHolds M (r a)) (BasicHolds M (r b)) (h a) (h b)
+  meaning-says A r h (Eu a b) = on-walks-same exists (A a) (A b) (BasicHolds M (r a)) (BasicHolds M (r b)) (h a) (h b)
   meaning-says A r h (kind.Eg a) = prefix-same Eg (A a) (BasicHolds M (r a)) (h a)
   meaning-says A r h (kind.Ag a) = prefix-same Ag (A a) (BasicHolds M (r a)) (h a)
 
@@ -157,7 +140,7 @@ module _ (M : Structure) (total : Total M) where
       (joined-same o _ _ _ _ (satisfies-rewritten f s l) (satisfies-rewritten g s l))
       (joining-holds o (rewritten f) (rewritten g) s l)
   satisfies-rewritten (tree.until q f g) =
-      until-same q (Satisfies M f) (Satisfies M g) (BasicHolds M (rewritten f)) (BasicHolds M (rewritten g))
+      on-walks-same q (Satisfies M f) (Satisfies M g) (BasicHolds M (rewritten f)) (BasicHolds M (rewritten g))
       (satisfies-rewritten f) (satisfies-rewritten g)
 
   pub rule-truth : (f : Tree) (s : ℕ) → State M s → Satisfies M f s ↔ Holds M (linesOf f) (length (linesOf f) - 1) s
