@@ -1,7 +1,7 @@
 -- Laws of the table from subformulas to rules: what a rule names is in range, and the value that closing fills. Assumes nothing.
 use Prim.Native.Nat.{ℕ, _<_, _≤_}
-use mathlib.Core.Path.{_≡_, refl}
-use mathlib.Core.Bool.{Bool, true}
+use mathlib.Core.Path.{_≡_, refl, sym, _∙_, ap}
+use mathlib.Core.Bool.{Bool, true, false, true≢false}
 use native.Mathlib.Omega.{arith}
 use lib.ListN.{length, getD}
 use lib.Dec.{ltb}
@@ -52,11 +52,21 @@ range-up k n (Next all a) l o = omega arith
 range-up k n (Sets all start grow v) l o = (asks-up k n start l (o .0), asks-up k n grow l (o .1), o .2)
 
 -- It goes by sets, or it does not.
+abbrev isSets : Rule → Bool
+isSets (Atom j) = false
+isSets (Not a) = false
+isSets (And a b) = false
+isSets (Next all a) = false
+isSets (Sets all start grow v) = true
+
+pub not-sets : (r : Rule) → isSets r ≡ false → IsSets r → ⊥
+not-sets r e i = true≢false (sym (ap isSets (i .is)) ∙ e)
+
 pub by-sets {ℓ} : {A : Type ℓ} (r : Rule) → (IsSets r → A) → ((IsSets r → ⊥) → A) → A
-by-sets (Atom j) sets other = other (λ i. let e = i .is in let z : _≡_ {A = ℕ} 0 1 = cc in omega arith)
-by-sets (Not a) sets other = other (λ i. let e = i .is in let z : _≡_ {A = ℕ} 0 1 = cc in omega arith)
-by-sets (And a b) sets other = other (λ i. let e = i .is in let z : _≡_ {A = ℕ} 0 1 = cc in omega arith)
-by-sets (Next all a) sets other = other (λ i. let e = i .is in let z : _≡_ {A = ℕ} 0 1 = cc in omega arith)
+by-sets (Atom j) sets other = other (not-sets (Atom j) refl)
+by-sets (Not a) sets other = other (not-sets (Not a) refl)
+by-sets (And a b) sets other = other (not-sets (And a b) refl)
+by-sets (Next all a) sets other = other (not-sets (Next all a) refl)
 by-sets (Sets all start grow v) sets other = sets (record { all = all; start = start; grow = grow; value = v; is = refl })
 
 -- What sets name is in range.

@@ -27,6 +27,7 @@ use Rattle.job.specs.declared.rule.Condition.the-variants.{Always, Fails}
 use Rattle.job.specs.declared.rule.Rule.{Rule}
 use Rattle.job.specs.declared.rule.Rule.the-variants.{Sets}
 use Rattle.job.proofs.Exact.{decode-is-job}
+use Rattle.job.proofs.RuleLaws.{not-sets}
 use Rattle.ctl.specs.Truth.{Walk, Throughout, OnWalks, meaning, Holds}
 use Rattle.ctl.proofs.Renaming.{holds-meaning}
 use Rattle.cells.specs.Table.{Table, cell, isEmpty, filled}
@@ -158,11 +159,11 @@ module _ (J : Job) (n : ℕ) (at : ℕ → ℕ → ℕ) (low : (j s : ℕ) → a
 -- What goes by sets closes by its kind.
 sets-kind : (f : Subformula) → IsSets (ruleOf f) → ClosesTo (kindOf f) (closedValue (ruleOf f))
 unfolding fields
-sets-kind (Atom j) i = let e = i .is in let z : _≡_ {A = ℕ} 0 1 = cc in absurd (omega arith)
-sets-kind (Not a) i = let e = i .is in let z : _≡_ {A = ℕ} 0 1 = cc in absurd (omega arith)
-sets-kind (And a b) i = let e = i .is in let z : _≡_ {A = ℕ} 0 1 = cc in absurd (omega arith)
-sets-kind (Ax a) i = let e = i .is in let z : _≡_ {A = ℕ} 0 1 = cc in absurd (omega arith)
-sets-kind (Ex a) i = let e = i .is in let z : _≡_ {A = ℕ} 0 1 = cc in absurd (omega arith)
+sets-kind (Atom j) i = absurd (not-sets (ruleOf (Atom j)) refl i)
+sets-kind (Not a) i = absurd (not-sets (ruleOf (Not a)) refl i)
+sets-kind (And a b) i = absurd (not-sets (ruleOf (And a b)) refl i)
+sets-kind (Ax a) i = absurd (not-sets (ruleOf (Ax a)) refl i)
+sets-kind (Ex a) i = absurd (not-sets (ruleOf (Ex a)) refl i)
 sets-kind (Au a b) i = six
 sets-kind (Eu a b) i = seven
 sets-kind (Eg a) i = eight

@@ -26,7 +26,7 @@ use Rattle.rule_text.specs.Lines.{joining, rewritten, prefixLine, untilL
 use Rattle.rule_text.specs.RuleCall.{ruleLines, InLimits}
 use Rattle.rule_text.proofs.Reading.{reading-means}
 
--- The quoted of a quoted text of ASCII characters; its tree, and its lines. To unfold these is to unfold all that they compute with.
+-- The bytes of a quoted text of ASCII characters; its tree, and its lines. To unfold these is to unfold all that they compute with.
 unfoldable pub quoted : String → Text
 quoted end = []
 quoted (c then cs) = code c ∷ quoted cs

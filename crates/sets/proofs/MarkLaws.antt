@@ -160,14 +160,14 @@ module _ (J : Job) (t : Table) (n s k v : ℕ) (start grow : WantedCell) (also :
       {x o p b a : ℕ}
       → o ≡ cell J t n s k
       → p ≡ placeOf J n s
-      → b ≡ cell J t n s (start .operand)
-      → a ≡ cell J t n s (grow .operand)
+      → b ≡ cell J t n s (start .subformula)
+      → a ≡ cell J t n s (grow .subformula)
       → x ≡ mark also v p o (isWanted also start b) (isWanted also grow a)
       → x ≡ markBy J t n s k v start grow also
   marks-by own place b a e = rw (own, place, b, a) at e
 
 -- A condition wants a cell of the rule's own column or of an operand's.
-wanted-in : (k n : ℕ) → k < n → (c : Condition) → AsksSmaller k c → wanted k c .operand < n
+wanted-in : (k n : ℕ) → k < n → (c : Condition) → AsksSmaller k c → wanted k c .subformula < n
 wanted-in k n l Always o = l
 wanted-in k n l (Holds a) o = omega arith
 wanted-in k n l (Fails a) o = omega arith
@@ -176,7 +176,7 @@ wanted-in k n l (Fails a) o = omega arith
 module _ (at : ℕ → ℕ → ℕ) (s k also : ℕ) (low : (j : ℕ) → at j s ≤ 2) (high : 2 ≤ also) where
   -- whether a cell is the one that is wanted, or counts besides
   abbrev read : Condition → Bool
-  read c = isWanted also (wanted k c) (at (wanted k c .operand) s)
+  read c = isWanted also (wanted k c) (at (wanted k c .subformula) s)
 
   wanted-counts : at k s ≡ 2 → (c : Condition) → read c ≡ counts also (known at c s)
   unfolding known opposite isEmpty
@@ -229,7 +229,7 @@ module _ (m : List ℕ) (t : Table) (ready : Ready m t) (n k : ℕ) (g : Growth)
 
   -- the cells that are read, at a state
   module _ (s : ℕ) (l : s < size J) where
-    wanted-cell : (c : Condition) → AsksSmaller k c → (w : WantedCell) → w ≡ wanted k c → IsCell J n s (w .operand)
+    wanted-cell : (c : Condition) → AsksSmaller k c → (w : WantedCell) → w ≡ wanted k c → IsCell J n s (w .subformula)
     wanted-cell c o w e =
         record { node-in = here .0; state-in = l; subformula-in = rw e (wanted-in k (subformulaCount J) (here .1) c o) }
 
@@ -237,7 +237,7 @@ module _ (m : List ℕ) (t : Table) (ready : Ready m t) (n k : ℕ) (g : Growth)
         (start grow : WantedCell)
         → start ≡ wanted k (g .start)
         → grow ≡ wanted k (g .grow)
-        → Lent m t × (IsCell J n s k × IsCell J n s (start .operand) × IsCell J n s (grow .operand))
+        → Lent m t × (IsCell J n s k × IsCell J n s (start .subformula) × IsCell J n s (grow .subformula))
     unfolding InRange
     cells-read start grow e f = (
       ready .lent,

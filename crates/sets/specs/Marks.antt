@@ -40,9 +40,9 @@ counts also x = eqb x 1 || eqb x also
 
 -- The cell that a condition of subformula k reads where the cell of k is empty, and its value where the condition is met.
 abbrev pub wanted : ℕ → Condition → WantedCell
-wanted k Always = record { operand = k; value = 2 }
-wanted k (Holds a) = record { operand = a; value = 1 }
-wanted k (Fails a) = record { operand = a; value = 0 }
+wanted k Always = record { subformula = k; value = 2 }
+wanted k (Holds a) = record { subformula = a; value = 1 }
+wanted k (Fails a) = record { subformula = a; value = 0 }
 
 -- A state's mark by the cells that are wanted.
 abbrev pub isWanted : ℕ → WantedCell → ℕ → Bool
@@ -50,8 +50,8 @@ isWanted also w c = eqb c (w .value) || eqb c also
 
 abbrev pub markBy : Job → Table → ℕ → ℕ → ℕ → ℕ → WantedCell → WantedCell → ℕ → ℕ
 markBy J t n s k v start grow also =
-    mark also v (placeOf J n s) (cell J t n s k) (isWanted also start (cell J t n s (start .operand)))
-    (isWanted also grow (cell J t n s (grow .operand)))
+    mark also v (placeOf J n s) (cell J t n s k) (isWanted also start (cell J t n s (start .subformula)))
+    (isWanted also grow (cell J t n s (grow .subformula)))
 
 -- The column of node n and subformula k, over the cells of the table t: the marks by state, and how a set grows by them.
 module _ (J : Job) (t : Table) (n k : ℕ) (g : Growth) (also : ℕ) where

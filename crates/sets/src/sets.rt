@@ -27,9 +27,9 @@ pub struct Growth {
     pub value: u8,
 }
 
-// A condition as one cell to read: at a state whose cell of subformula k is empty it is met where the cell of `operand` is `value`.
+// A condition as one cell to read: at a state whose cell of subformula k is empty it is met where its cell of `subformula` is `value`.
 struct WantedCell {
-    operand: usize,
+    subformula: usize,
     value: u8,
 }
 
@@ -39,15 +39,15 @@ fn wanted(k: usize, c: Condition) -> WantedCell
 {
     match c {
         Condition::Always => WantedCell {
-            operand: k,
+            subformula: k,
             value: 2,
         },
         Condition::Holds(a) => WantedCell {
-            operand: a,
+            subformula: a,
             value: 1,
         },
         Condition::Fails(a) => WantedCell {
-            operand: a,
+            subformula: a,
             value: 0,
         },
     }
@@ -67,7 +67,7 @@ fn mark(
     also: u8,
 ) -> u8
     requires { ⌜ Lent (now m) (now table) ⌝ }
-    requires { ⌜ IsCell (jobOf (now m)) n s k × IsCell (jobOf (now m)) n s (start .operand) × IsCell (jobOf (now m)) n s (grow .operand) ⌝ }
+    requires { ⌜ IsCell (jobOf (now m)) n s k × IsCell (jobOf (now m)) n s (start .subformula) × IsCell (jobOf (now m)) n s (grow .subformula) ⌝ }
     ensures { λ r. ⌜ r ≡ markBy (jobOf (now (m .entry))) (now (table .entry)) n s k v start grow also ⌝ }
 {
     let own = cell(m, table, n, s, k);
@@ -80,11 +80,11 @@ fn mark(
     if place(m, n, s) != 2 {
         return also;
     }
-    let b = cell(m, table, n, s, start.operand);
+    let b = cell(m, table, n, s, start.subformula);
     if (b == start.value) | (b == also) {
         return 2;
     }
-    let a = cell(m, table, n, s, grow.operand);
+    let a = cell(m, table, n, s, grow.subformula);
     if (a == grow.value) | (a == also) {
         return 1;
     }
