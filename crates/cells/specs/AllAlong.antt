@@ -10,6 +10,10 @@ use Rattle.cells.specs.Cases.{Case, verdictCalls}
 unfoldable pub ringJob : String
 ringJob = "    2    2    2    2\n    0    1\n    1    1\n    0    1\n    1    0\n    1    0    0\n    8    0    0\n"
 
+-- AG p0 => A[p0 U p1] on the same ring, as not (AG p0 and not A(p0 U p1))
+unfoldable pub impliesJob : String
+impliesJob = "    2    2    7    2\n    0    1\n    1    1\n    0    1\n    1    0\n    1    0    0\n    9    0    0\n    1    1    0\n    6    0    2\n    2    3    0\n    3    1    4\n    2    5    0\n"
+
 unfoldable pub allAlong : List Case
 allAlong =
     -- close fills 1, at the owners and at the border states
@@ -26,10 +30,9 @@ allAlong =
       told = (0 ∷ 0 ∷ []) ∷ (0 ∷ 0 ∷ 1 ∷ 3 ∷ 8 ∷ []) ∷ [];
       cells = 1 ∷ 1 ∷ 1 ∷ 1 ∷ 1 ∷ 1 ∷ 1 ∷ 1 ∷ [];
     }
-    -- AG p0 => A[p0 U p1] on the same ring, as not (AG p0 and not A(p0 U p1)), false: AG p0 is closed to 1 and A(p0 U p1) to 0, and
-    -- with either of them closed to the other value the verdict is 1
+    -- AG p0 is closed to 1 and A(p0 U p1) to 0, so that the rule is false; with either of them closed to the other value it would be true
     ∷ record {
-      job = "    2    2    7    2\n    0    1\n    1    1\n    0    1\n    1    0\n    1    0    0\n    9    0    0\n    1    1    0\n    6    0    2\n    2    3    0\n    3    1    4\n    2    5    0\n";
+      job = impliesJob;
       calls = verdictCalls;
       told = (0 ∷ 0 ∷ []) ∷ (0 ∷ 0 ∷ 0 ∷ 5 ∷ 28 ∷ []) ∷ [];
       cells =

@@ -20,7 +20,7 @@ use Rattle.cells.specs.Table.{Table, cell, ownerCell}
 use Rattle.cells.specs.SetRule.{SetRule}
 use Rattle.cells.specs.Calls.{Call, step, accept, look, close, finish, questions, width, told}
 use Rattle.cells.specs.Cases.{bytes, jobV, job2, job3}
-use Rattle.cells.specs.AllAlong.{ringJob}
+use Rattle.cells.specs.AllAlong.{ringJob, impliesJob}
 use Rattle.rule_text.specs.declared.token.Prefix.{Prefix as PrefixOperator}
 use Rattle.rule_text.specs.declared.token.Token.the-variants.{Prefix}
 use Rattle.rule_text.specs.Tree.{Tree, prefix}
@@ -49,7 +49,7 @@ use Rattle.promises.proofs.Judged.{prints-judged}
 use Rattle.promises.proofs.RuleText.{rules-first, rules-stay, rules-exact, rules-written, rules-in-job, means-in-order, rules-agree, prints-rule}
 use Rattle.promises.proofs.UnnamedNode.{happens-named, happens-owner, happens-unnamed, happens-never-18, happens-step-255, happens-accept-255}
 use Rattle.promises.proofs.AllAlong.{question-8, eg-walks, ag-walks, happens-eg, happens-ag, happens-closed}
-use Rattle.promises.proofs.Hypotheses.{lent, fresh-for, one-machine, example, looked, ring-example}
+use Rattle.promises.proofs.Hypotheses.{lent, fresh-for, one-machine, example, looked, has-eg, has-ag, ring-example}
 
 -- Demand 1. "Any bytes and any numbers:
 pub any-bytes-and-any-numbers : AsksNothing
@@ -241,13 +241,11 @@ pub prefixes-alike :
     (p : PrefixOperator) (x : Text) (f : Tree) → Means x f → Means (spelling (Prefix p) ++ (40 ∷ (x ++ (41 ∷ [])))) (prefix p f)
 prefixes-alike = prefix-means
 
--- "Every order of messages still has to end in CTL truth for jobs with the two kinds": `demand-3` is about every job, and this is a list of
--- calls for one of them, in which a close fills 1.
-pub calls-all-along : ListOfCalls (bytes ringJob)
-calls-all-along = ring-example
+-- "Every order of messages still has to end in CTL truth for jobs with the two kinds": that is `demand-3`, which is about every job.
 
 -- What is supposed here can be had: what is defined may happen, a table fresh for a text, two cuttings of one machine, a list with messages, a
--- rule within the limits, structures in which each state has an edge out, and a look without a node that is accepted.
+-- rule within the limits, structures in which each state has an edge out, a look without a node that is accepted, jobs with EG and AG, and a list
+-- with steps of EG, a close that fills 1 and a message about it.
 pub defined-may-happen : (l : Loan) (x : Text) → MayHappen l x
 defined-may-happen = may-happen
 
@@ -268,3 +266,12 @@ jobs-have-edges-out = total-job
 
 pub a-look-without-a-node : (t : Table) × Happens lent (bytes job2) (look 255 1 2) t (accepted (1 ∷ [])) t
 a-look-without-a-node = looked
+
+pub a-job-with-eg : (1 < subformulaCount (decode (bytes ringJob))) × (subformula (decode (bytes ringJob) .formula) 1 ≡ Eg 0)
+a-job-with-eg = has-eg
+
+pub a-job-with-ag : (1 < subformulaCount (decode (bytes impliesJob))) × (subformula (decode (bytes impliesJob) .formula) 1 ≡ Ag 0)
+a-job-with-ag = has-ag
+
+pub calls-all-along : ListOfCalls (bytes ringJob)
+calls-all-along = ring-example

@@ -2,20 +2,22 @@
 -- cuttings, and there is a list with a message in it: on case C2 node 1 steps and offers what it knows of its border state, node 0 accepts
 -- it, accepts it again, and node 1 and an empty text are refused; and a look without a node is accepted there; and a list
 -- on a ring with EG in which a close fills 1. Assumes nothing.
-use Prim.Native.Nat.{ℕ}
+use Prim.Native.Nat.{ℕ, _<_}
 use Prim.Native.String.{String}
 use mathlib.Core.Path.{_≡_, refl, sym, subst}
 use mathlib.Core.List.{List, [], _∷_, map, List·Memᴰ, List·Memᴰ·head}
 use native.Mathlib.Omega.{arith}
 use lib.ListN.{length-replicate}
+use lib.Dec.{lit≤}
 use Rattle.text.specs.Field.{Text}
-use Rattle.job.specs.Job.{decode}
+use Rattle.job.specs.Job.{decode, subformulaCount, subformula}
+use Rattle.job.specs.declared.subformula.Subformula.the-variants.{Eg, Ag}
 use Rattle.job.specs.Answer.{accepted, refused}
 use Rattle.job.specs.Questions.{Accepted}
 use Rattle.cells.specs.Table.{Table, tableLength}
 use Rattle.cells.specs.Calls.{Call, fresh, step, offer, accept, look, close, answer, after}
 use Rattle.cells.specs.Cases.{bytes, jobV, job2, job3, zeros}
-use Rattle.cells.specs.AllAlong.{ringJob}
+use Rattle.cells.specs.AllAlong.{ringJob, impliesJob}
 use Rattle.cells.proofs.CallLaws.{fresh-accepted}
 use Rattle.cells.proofs.Printed.{printed}
 use Rattle.promises.specs.Contracts.{Loan, Happens}
@@ -136,6 +138,15 @@ events-told = refl
 pub example : ListOfCalls (bytes job2)
 unfolding printed events Accepted
 example = listed (bytes job2) refl calls events-meant
+
+-- Jobs with EG and with AG.
+pub has-eg : (1 < subformulaCount (decode (bytes ringJob))) × (subformula (decode (bytes ringJob) .formula) 1 ≡ Eg 0)
+unfolding printed ringJob
+has-eg = (lit≤ tt, refl)
+
+pub has-ag : (1 < subformulaCount (decode (bytes impliesJob))) × (subformula (decode (bytes impliesJob) .formula) 1 ≡ Ag 0)
+unfolding printed impliesJob
+has-ag = (lit≤ tt, refl)
 
 -- On the ring with EG p0 both nodes step, a close fills 1, and what it filled is offered and accepted.
 unfoldable pub ring-calls : List Made
