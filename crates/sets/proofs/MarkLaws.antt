@@ -33,7 +33,8 @@ use Rattle.spread.specs.Spread.{spreadRule, Joinable, Spread}
 use Rattle.spread.proofs.Turn.{rule-mono}
 use Rattle.sets.specs.declared.sets.Growth.{Growth}
 use Rattle.sets.specs.declared.sets.WantedCell.{WantedCell}
-use Rattle.sets.specs.Marks.{ruleBy, mark, counts, wanted, isWanted, markBy, markAt, grows, IsSet, Marks}
+use Rattle.sets.specs.declared.sets.Marking.{Marking}
+use Rattle.sets.specs.Marks.{ruleBy, mark, counts, wanted, isWanted, markedBy, CellsIn, markBy, markAt, grows, IsSet, Marks}
 
 module _ (J : Job) (job : IsJob J) (n : ℕ) (f : ℕ → ℕ) (d : ℕ) where
   pub marks-start : Marks J n f d 0 (replicate 256 d)
@@ -155,15 +156,15 @@ module _ (also v place own : ℕ) (starts grows : Bool) where
         mark-no-join e f = simp (ne-eqb own v apart, eq-eqb own 2 empty, eq-eqb place 2 in-place, e, f)
 
 -- the same by the cells as they were read, one after the other
-module _ (J : Job) (t : Table) (n s k v : ℕ) (start grow : WantedCell) (also : ℕ) where
+module _ (J : Job) (t : Table) (n s : ℕ) (by : Marking) where
   pub marks-by :
       {x o p b a : ℕ}
-      → o ≡ cell J t n s k
+      → o ≡ cell J t n s (by .own .subformula)
       → p ≡ placeOf J n s
-      → b ≡ cell J t n s (start .subformula)
-      → a ≡ cell J t n s (grow .subformula)
-      → x ≡ mark also v p o (isWanted also start b) (isWanted also grow a)
-      → x ≡ markBy J t n s k v start grow also
+      → b ≡ cell J t n s (by .start .subformula)
+      → a ≡ cell J t n s (by .grow .subformula)
+      → x ≡ mark (by .also) (by .own .value) p o (isWanted (by .also) (by .start) b) (isWanted (by .also) (by .grow) a)
+      → x ≡ markBy J t n s by
   marks-by own place b a e = rw (own, place, b, a) at e
 
 -- A condition wants a cell of the rule's own column or of an operand's.
@@ -229,35 +230,24 @@ module _ (m : List ℕ) (t : Table) (ready : Ready m t) (n k : ℕ) (g : Growth)
 
   -- the cells that are read, at a state
   module _ (s : ℕ) (l : s < size J) where
-    wanted-cell : (c : Condition) → AsksSmaller k c → (w : WantedCell) → w ≡ wanted k c → IsCell J n s (w .subformula)
-    wanted-cell c o w e =
-        record { node-in = here .0; state-in = l; subformula-in = rw e (wanted-in k (subformulaCount J) (here .1) c o) }
+    wanted-cell : (c : Condition) → AsksSmaller k c → IsCell J n s (wanted k c .subformula)
+    wanted-cell c o = record { node-in = here .0; state-in = l; subformula-in = wanted-in k (subformulaCount J) (here .1) c o }
 
-    pub cells-read :
-        (start grow : WantedCell)
-        → start ≡ wanted k (g .start)
-        → grow ≡ wanted k (g .grow)
-        → Lent m t × (IsCell J n s k × IsCell J n s (start .subformula) × IsCell J n s (grow .subformula))
+    pub cells-in : (by : Marking) → by ≡ markedBy k g also → CellsIn J n s by
     unfolding InRange
-    cells-read start grow e f = (
-      ready .lent,
-      (
-        record { node-in = here .0; state-in = l; subformula-in = here .1 },
-        wanted-cell (g .start) (here .2 .0) start e,
-        wanted-cell (g .grow) (here .2 .1) grow f,
-      ),
-    )
+    cells-in by e =
+        rw e
+        (record {
+          own-in = record { node-in = here .0; state-in = l; subformula-in = here .1 };
+          start-in = wanted-cell (g .start) (here .2 .0);
+          grow-in = wanted-cell (g .grow) (here .2 .1);
+        })
 
   -- a state's mark by the cells that the conditions want
-  pub mark-read :
-      (s : ℕ) {x : ℕ} {start grow : WantedCell}
-      → x ≡ markBy J t n s k (g .value) start grow also
-      → start ≡ wanted k (g .start)
-      → grow ≡ wanted k (g .grow)
-      → x ≡ markAt J t n k g also s
+  pub mark-read : (s : ℕ) {x : ℕ} {by : Marking} → x ≡ markBy J t n s by → by ≡ markedBy k g also → x ≡ markAt J t n k g also s
   unfolding cell
-  mark-read s e start grow =
-      rw (start, grow) at e
+  mark-read s e is =
+      rw is at e
       ∙ mark-wanted (cellsOf J t n) s k also (λ j. right-is J t (ready .right) .small (index J n s j)) (here .3) (g .value) (placeOf J n s)
       (g .start) (g .grow)
 

@@ -20,8 +20,10 @@ use Rattle.cells.specs.Step.{known}
 use Rattle.image.specs.Image.{placeOf, rank, fragmentSize, fragmentState}
 use Rattle.table.specs.Column.{cellsOf}
 use Rattle.table.specs.Filling.{Values}
+use Rattle.table.specs.Lent.{IsCell}
 use Rattle.sets.specs.declared.sets.Growth.{Growth}
 use Rattle.sets.specs.declared.sets.WantedCell.{WantedCell}
+use Rattle.sets.specs.declared.sets.Marking.{Marking}
 
 -- The rule that grows so.
 abbrev pub ruleBy : Growth → Rule
@@ -44,14 +46,26 @@ wanted k Always = record { subformula = k; value = 2 }
 wanted k (Holds a) = record { subformula = a; value = 1 }
 wanted k (Fails a) = record { subformula = a; value = 0 }
 
--- A state's mark by the cells that are wanted.
 abbrev pub isWanted : ℕ → WantedCell → ℕ → Bool
 isWanted also w c = eqb c (w .value) || eqb c also
 
-abbrev pub markBy : Job → Table → ℕ → ℕ → ℕ → ℕ → WantedCell → WantedCell → ℕ → ℕ
-markBy J t n s k v start grow also =
-    mark also v (placeOf J n s) (cell J t n s k) (isWanted also start (cell J t n s (start .subformula)))
-    (isWanted also grow (cell J t n s (grow .subformula)))
+-- What the states of column k are marked by, for a set that grows so.
+abbrev pub markedBy : ℕ → Growth → ℕ → Marking
+markedBy k g also =
+    record { own = record { subformula = k; value = g .value }; start = wanted k (g .start); grow = wanted k (g .grow); also = also }
+
+-- The cells that are read for a state's mark are cells of the table,
+pub record CellsIn (J : Job) (n s : ℕ) (by : Marking) : Type 0 where
+  pub own-in : IsCell J n s (by .own .subformula)
+  pub start-in : IsCell J n s (by .start .subformula)
+  pub grow-in : IsCell J n s (by .grow .subformula)
+
+-- and its mark by them.
+abbrev pub markBy : Job → Table → ℕ → ℕ → Marking → ℕ
+markBy J t n s by =
+    mark (by .also) (by .own .value) (placeOf J n s) (cell J t n s (by .own .subformula))
+    (isWanted (by .also) (by .start) (cell J t n s (by .start .subformula)))
+    (isWanted (by .also) (by .grow) (cell J t n s (by .grow .subformula)))
 
 -- The column of node n and subformula k, over the cells of the table t: the marks by state, and how a set grows by them.
 module _ (J : Job) (t : Table) (n k : ℕ) (g : Growth) (also : ℕ) where

@@ -5,10 +5,10 @@ ghost use Prim.Native.Nat.{_<_, _≤_};
 ghost use Rattle.job.specs.Job.{subformulaCount};
 ghost use Rattle.job.specs.Rule.{InRange};
 ghost use Rattle.image.specs.Image.{jobOf};
-ghost use Rattle.table.specs.Lent.{Lent, Ready, IsCell};
+ghost use Rattle.table.specs.Lent.{Lent, Ready};
 ghost use Rattle.table.specs.Filling.{Leaves, part, ofColumn};
 ghost use Rattle.table.specs.Column.{stepBy};
-ghost use Rattle.sets.specs.Marks.{ruleBy, wanted as wantedOf, markBy, IsSet, hasEmpty, setValue, setValues};
+ghost use Rattle.sets.specs.Marks.{ruleBy, wanted as wantedOf, markedBy, CellsIn, markBy, IsSet, hasEmpty, setValue, setValues};
 use image::image::Image;
 use image::image::fragment_size;
 use image::image::fragment_state;
@@ -33,6 +33,15 @@ struct WantedCell {
     value: u8,
 }
 
+// What the states of a column are marked by: the own cell with which a state is in the set already, the cells that let it start and grow,
+// and the value that counts beside what these two want.
+struct Marking {
+    own: WantedCell,
+    start: WantedCell,
+    grow: WantedCell,
+    also: u8,
+}
+
 // What is always met is that the empty cell is empty.
 fn wanted(k: usize, c: Condition) -> WantedCell
     ensures { λ r. ⌜ r ≡ wantedOf k c ⌝ }
@@ -53,39 +62,45 @@ fn wanted(k: usize, c: Condition) -> WantedCell
     }
 }
 
-// The mark of state s: 2 where it starts in the set, 1 where it may join, else another. Cells that are `also` count beside those that are
-// wanted. The state of a filled cell is done with one look.
-fn mark(
-    m: &Image,
-    table: &[u8],
-    n: usize,
-    s: usize,
-    k: usize,
-    v: u8,
-    start: WantedCell,
-    grow: WantedCell,
-    also: u8,
-) -> u8
-    requires { ⌜ Lent (now m) (now table) ⌝ }
-    requires { ⌜ IsCell (jobOf (now m)) n s k × IsCell (jobOf (now m)) n s (start .subformula) × IsCell (jobOf (now m)) n s (grow .subformula) ⌝ }
-    ensures { λ r. ⌜ r ≡ markBy (jobOf (now (m .entry))) (now (table .entry)) n s k v start grow also ⌝ }
+// What the states of column k are marked by, for a set that grows so.
+fn marked_by(k: usize, g: Growth, also: u8) -> Marking
+    ensures { λ r. ⌜ r ≡ markedBy k g also ⌝ }
 {
-    let own = cell(m, table, n, s, k);
-    if own == v {
+    let start = g.start;
+    let grow = g.grow;
+    Marking {
+        own: WantedCell {
+            subformula: k,
+            value: g.value,
+        },
+        start: wanted(k, start),
+        grow: wanted(k, grow),
+        also,
+    }
+}
+
+// The mark of state s: 2 where it starts in the set, 1 where it may join, else another. The state of a filled cell is done with one look.
+fn mark(m: &Image, table: &[u8], n: usize, s: usize, by: Marking) -> u8
+    requires { ⌜ Lent (now m) (now table) ⌝ }
+    requires { ⌜ CellsIn (jobOf (now m)) n s by ⌝ }
+    ensures { λ r. ⌜ r ≡ markBy (jobOf (now (m .entry))) (now (table .entry)) n s by ⌝ }
+{
+    let own = cell(m, table, n, s, by.own.subformula);
+    if own == by.own.value {
         return 2;
     }
     if own != 2 {
         return 0;
     }
     if place(m, n, s) != 2 {
-        return also;
+        return by.also;
     }
-    let b = cell(m, table, n, s, start.subformula);
-    if (b == start.value) | (b == also) {
+    let b = cell(m, table, n, s, by.start.subformula);
+    if (b == by.start.value) | (b == by.also) {
         return 2;
     }
-    let a = cell(m, table, n, s, grow.subformula);
-    if (a == grow.value) | (a == also) {
+    let a = cell(m, table, n, s, by.grow.subformula);
+    if (a == by.grow.value) | (a == by.also) {
         return 1;
     }
     0
@@ -98,14 +113,11 @@ fn set_of(m: &Image, table: &[u8], n: usize, k: usize, g: Growth, also: u8) -> [
     requires { ⌜ (n < jobOf (now m) .nodes) × (k < subformulaCount (jobOf (now m))) × InRange k (ruleBy g) × (2 ≤ also) ⌝ }
     ensures { λ r. ⌜ IsSet (jobOf (now (m .entry))) (now (table .entry)) n k g also r ⌝ }
 {
-    let condition = g.start;
-    let start = wanted(k, condition);
-    let condition = g.grow;
-    let grow = wanted(k, condition);
+    let by = marked_by(k, g, also);
     let mut marks = [also; 256];
     for i in 0..fragment_size(m, n) {
         let s = fragment_state(m, n, i);
-        marks[s] = mark(m, table, n, s, k, g.value, start, grow, also);
+        marks[s] = mark(m, table, n, s, by);
     }
     spread(m, n, g.all, &mut marks);
     marks

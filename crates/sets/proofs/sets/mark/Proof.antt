@@ -6,60 +6,60 @@ use Rattle.sets.proofs.sets.mark.Statement.{statement}
 use Rattle.sets.proofs.sets.mark.Tie as tie
 
 returns : tie.Need-returns
-returns c = marks-by _ _ _ _ _ _ _ _ _ (c .before .cell .ensures) refl refl refl (mark-own _ _ _ _ _ _ (c .if1 .taken))
+returns c = marks-by _ _ _ _ _ (c .before .before .cell .ensures) refl refl refl (mark-own _ _ _ _ _ _ (c .if1 .taken))
+
+-- what was read before a test
+abbrev own-read : tie.Else1 → tie.After-cell
+own-read c = c .before .before
 
 returns-2 : tie.Need-returns-2
 returns-2 c =
-    marks-by _ _ _ _ _ _ _ _ _ (c .before .before .cell .ensures) refl refl refl (mark-other _ _ _ _ _ _ (c .before .if1 .left) (c .if2 .taken))
+    marks-by _ _ _ _ _ (own-read (c .before) .cell .ensures) refl refl refl (mark-other _ _ _ _ _ _ (c .before .if1 .left) (c .if2 .taken))
 
 place-requires : tie.Need-place-requires
 place-requires c κs =
-    let pre = c .before .before .before .before .pre in (pre .0 .image, (pre .1 .0 .node-in, pre .1 .0 .state-in))
+    let pre = own-read (c .before) .before .before .pre in (pre .0 .image, (pre .1 .own-in .node-in, pre .1 .own-in .state-in))
 
 returns-3 : tie.Need-returns-3
 returns-3 c =
     let e = c .before .before in
-    marks-by _ _ _ _ _ _ _ _ _ (e .before .before .cell .ensures) (c .before .place .ensures) refl refl
+    marks-by _ _ _ _ _ (own-read (e .before) .cell .ensures) (c .before .place .ensures) refl refl
     (mark-border _ _ _ _ _ _ (e .before .if1 .left) (e .if2 .left) (c .if3 .taken))
 
 cell-requires-2 : tie.Need-cell-requires-2
-cell-requires-2 c κs = let pre = c .before .before .before .before .before .before .pre in (pre .0, pre .1 .1)
+cell-requires-2 c κs = let pre = own-read (c .before .before .before) .before .before .pre in (pre .0, pre .1 .start-in)
 
 returns-4 : tie.Need-returns-4
 returns-4 c =
-    let b = c .before .before in
+    let b = c .before .before .before in
     let p = b .before .before in
     let e = p .before in
-    marks-by _ _ _ _ _ _ _ _ _ (e .before .before .cell .ensures) (p .place .ensures) (b .cell2 .ensures) refl
+    marks-by _ _ _ _ _ (own-read (e .before) .cell .ensures) (p .place .ensures) (b .cell2 .ensures) refl
     (mark-start _ _ _ _ _ _ (e .before .if1 .left) (e .if2 .left) (b .before .if3 .left) (c .if4 .taken))
 
+abbrev start-read : tie.Else4 → tie.After-cell2
+start-read c = c .before .before .before
+
 cell-requires-3 : tie.Need-cell-requires-3
-cell-requires-3 c κs = let pre = c .before .before .before .before .before .before .before .before .before .pre in (pre .0, pre .1 .2)
-
--- after the last test
-module _ (c : tie.After-cell3) where
-  abbrev b-read : tie.After-cell2
-  b-read = c .before .before .before
-
-  abbrev place-read : tie.After-place
-  place-read = b-read .before .before
+cell-requires-3 c κs =
+    let pre = own-read (start-read c .before .before .before .before) .before .before .pre in (pre .0, pre .1 .grow-in)
 
 returns-5 : tie.Need-returns-5
 returns-5 c =
-    let a = c .before .before in
-    let b = b-read a in
-    let p = place-read a in
+    let a = c .before .before .before in
+    let b = start-read (a .before) in
+    let p = b .before .before in
     let e = p .before in
-    marks-by _ _ _ _ _ _ _ _ _ (e .before .before .cell .ensures) (p .place .ensures) (b .cell2 .ensures) (a .cell3 .ensures)
+    marks-by _ _ _ _ _ (own-read (e .before) .cell .ensures) (p .place .ensures) (b .cell2 .ensures) (a .cell3 .ensures)
     (mark-grow _ _ _ _ _ _ (e .before .if1 .left) (e .if2 .left) (b .before .if3 .left) (a .before .if4 .left) (c .if5 .taken))
 
 returns-6 : tie.Need-returns-6
 returns-6 c =
-    let a = c .before .before in
-    let b = b-read a in
-    let p = place-read a in
+    let a = c .before .before .before in
+    let b = start-read (a .before) in
+    let p = b .before .before in
     let e = p .before in
-    marks-by _ _ _ _ _ _ _ _ _ (e .before .before .cell .ensures) (p .place .ensures) (b .cell2 .ensures) (a .cell3 .ensures)
+    marks-by _ _ _ _ _ (own-read (e .before) .cell .ensures) (p .place .ensures) (b .cell2 .ensures) (a .cell3 .ensures)
     (mark-no-join _ _ _ _ _ _ (e .before .if1 .left) (e .if2 .left) (b .before .if3 .left) (a .before .if4 .left) (c .if5 .left))
 
 pub mark-spec : {M : Type 1} → statement M

@@ -3,21 +3,21 @@ use Prim.Native.Nat.{_-_, _<_, _≤_}
 use mathlib.Core.Path.{_≡_}
 use Rattle.image.specs.Image.{jobOf, fragmentSize}
 use Rattle.sets.specs.Marks.{markAt, Marks}
-use Rattle.sets.proofs.MarkLaws.{marks-start, marks-more, marks-end, cells-read, mark-read, marks-join, marks-set}
+use Rattle.sets.proofs.MarkLaws.{marks-start, marks-more, marks-end, cells-in, mark-read, marks-join, marks-set}
 use borrow.Author.Needs.{needs}
 use native.Mathlib.Omega.{arith}
 use Rattle.sets.proofs.sets.set_of.Statement.{statement}
 use Rattle.sets.proofs.sets.set_of.Tie as tie
 
 abbrev Inv-loop : tie.InvT-loop
-Inv-loop m table n k g also start grow marks₀ i₀ i-end marks i = (i ≤ i-end) × Marks (jobOf m) n (markAt (jobOf m) table n k g also) also i marks
+Inv-loop m table n k g also by marks₀ i₀ i-end marks i = (i ≤ i-end) × Marks (jobOf m) n (markAt (jobOf m) table n k g also) also i marks
 
 abbrev μ-loop : tie.MeasureT-loop
-μ-loop m table n k g also start grow marks₀ i₀ i-end marks i = i-end - i
+μ-loop m table n k g also by marks₀ i₀ i-end marks i = i-end - i
 
--- the start, from where both conditions are cells that are wanted
-abbrev entered : tie.After-wanted2 Inv-loop μ-loop → tie.Start Inv-loop μ-loop
-entered c = c .before .before .before
+-- the start, from where it is known what states are marked by
+abbrev entered : tie.After-marked-by Inv-loop μ-loop → tie.Start Inv-loop μ-loop
+entered c = c .before .before
 
 fragment-size-requires : tie.Need-fragment-size-requires Inv-loop μ-loop
 fragment-size-requires c κs = let pre = entered c .pre in (pre .0 .lent .image, pre .1 .0)
@@ -32,11 +32,11 @@ fragment-state-requires c κs =
     (s .pre .0 .lent .image, (s .pre .1 .0, below))
 
 -- a turn of the loop
-abbrev wants-of : tie.After-fragment-state Inv-loop μ-loop → tie.After-wanted2 Inv-loop μ-loop
-wants-of p = p .before .before .before .before
+abbrev by-of : tie.After-fragment-state Inv-loop μ-loop → tie.After-marked-by Inv-loop μ-loop
+by-of p = p .before .before .before .before
 
 abbrev start-of : tie.After-fragment-state Inv-loop μ-loop → tie.Start Inv-loop μ-loop
-start-of p = entered (wants-of p)
+start-of p = entered (by-of p)
 
 below :
     (p : tie.After-fragment-state Inv-loop μ-loop)
@@ -45,10 +45,10 @@ below p = omega arith
 
 mark-requires : tie.Need-mark-requires Inv-loop μ-loop
 mark-requires c κs =
-    let s = start-of c in
-    let w = wants-of c in
-    cells-read _ _ (s .pre .0) _ _ (s .args .g) (s .args .also) (s .pre .1) _ (c .fragment-state .ensures .1) (w .before .wanted .result) (w .wanted2 .result)
-    (w .before .wanted .ensures) (w .wanted2 .ensures)
+    let s = start-of c in (
+      s .pre .0 .lent,
+      cells-in _ _ (s .pre .0) _ _ (s .args .g) (s .args .also) (s .pre .1) _ (c .fragment-state .ensures .1) _ (by-of c .marked-by .ensures),
+    )
 
 array-write-marks : tie.Need-array-write-marks Inv-loop μ-loop
 array-write-marks c = c .before .fragment-state .ensures .2
@@ -58,9 +58,8 @@ loop-again c =
     let p = c .before in
     let l = p .before .before .loop in
     let s = start-of p in
-    let w = wants-of p in
     let read = mark-read _ _ (s .pre .0) _ _ (s .args .g) (s .args .also) (s .pre .1) (p .fragment-state .result) (c .mark .ensures)
-    (w .before .wanted .ensures) (w .wanted2 .ensures) in (
+    (by-of p .marked-by .ensures) in (
       omega arith,
       marks-more _ (s .pre .0 .lent .image .is-job) _ _ (s .args .also) (l .i) (below p) (p .fragment-state .result) (p .fragment-state .ensures .0)
           (c .mark .result) read (l .marks) (l .inv .1),
@@ -92,6 +91,6 @@ returns c =
 
 pub set-of-spec : {M : Type 1} → statement M
 set-of-spec =
-    let first = tie.spec Inv-loop μ-loop (λ c κs. search needs) (λ c κs. search needs) fragment-size-requires loop-holds fragment-state-requires in
+    let first = tie.spec Inv-loop μ-loop (λ c κs. search needs) fragment-size-requires loop-holds fragment-state-requires in
     let second = first mark-requires array-write-marks (λ c. omega arith) (λ c. omega arith) loop-again spread-requires in
     tie.close (second returns)

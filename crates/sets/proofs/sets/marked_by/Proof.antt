@@ -1,0 +1,11 @@
+-- `marked_by`: both conditions as the cells that are wanted.
+use mathlib.Core.Path.{refl}
+use borrow.Author.Needs.{needs}
+use Rattle.sets.proofs.sets.marked_by.Statement.{statement}
+use Rattle.sets.proofs.sets.marked_by.Tie as tie
+
+returns : tie.Need-returns
+returns c = rw (c .before .wanted .ensures, c .wanted2 .ensures) refl
+
+pub marked-by-spec : {M : Type 1} → statement M
+marked-by-spec = tie.close (tie.spec (λ c κs. search needs) (λ c κs. search needs) returns)
