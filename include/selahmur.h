@@ -133,8 +133,8 @@ void selahmur_finish(const uint8_t *text, size_t text_length, uint8_t *table, si
 /* Reads a rule as text, of at most 512 bytes, and writes its lines, a job's subformula lines, from the start of the buffer on, which has exactly
  * 512 bytes. Each line takes 16 bytes, byte 10 among them; the last one is the whole rule's. Bytes behind the lines stay. Refusals 21 to 23.
  * Atoms are p0 to p15. Prefix !, AX, EX, EG and AG bind tightest, then come &, | and =>, weaker in this order; & and | group to the left, =>
- * to the right. A[f U g], E[f U g] and (f) are closed forms. f | g becomes not(not f and not g), and f => g becomes not(f and not g). Spaces may stand
- * before, between and after tokens and must stand between two of letters or digits; nothing else may, byte 10 neither.
+ * to the right. A[f U g], E[f U g] and (f) are closed forms. f | g becomes not(not f and not g), and f => g becomes not(f and not g). Spaces
+ * may stand before, between and after tokens and must stand between two of letters or digits; nothing else may, byte 10 neither.
  * Answer: number, line (0), how many lines. */
 void selahmur_rule(const uint8_t *text, size_t text_length, uint8_t *buffer, size_t buffer_length, size_t *answer, size_t answer_length);
 

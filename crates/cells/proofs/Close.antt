@@ -6,7 +6,7 @@ use mathlib.Core.Bool.{Bool, true, cond}
 use native.Mathlib.Omega.{arith}
 use lib.Dec.{eqb}
 use borrow.Author.Tests.{eqb-true}
-use Rattle.job.specs.Job.{Job, size, subformulaCount}
+use Rattle.job.specs.Job.{Job, subformulaCount}
 use Rattle.job.specs.Rule.{ruleAt, temporal, closedValue, quantifier, IsSets, AsksSmaller}
 use Rattle.job.specs.Written.{IsJob}
 use Rattle.job.specs.declared.rule.Condition.{Condition}
@@ -19,9 +19,10 @@ use Rattle.cells.specs.Step.{known}
 use Rattle.cells.specs.Close.{isTemporal, smallestOpen, closeTable}
 use Rattle.cells.proofs.Columns.{sets-column}
 use Rattle.cells.proofs.FragmentLaws.{fragment-bound, border-inside}
-use Rattle.cells.proofs.Tells.{Tells, cond-tells, empty-tells, known-tells, tells-valued, valued-tells}
+use Rattle.cells.proofs.Tells.{Tells, cond-tells, empty-tells, tells-valued}
 use Rattle.cells.proofs.Formed.{cell-low, closeTable-formed}
-use Rattle.cells.proofs.Sound.{truth, Sound, fill-tells}
+use Rattle.cells.proofs.RightColumn.{reads-sets}
+use Rattle.cells.proofs.Sound.{truth, Sound, fill-tells, sound-reads}
 use Rattle.cells.proofs.Settled.{Settled}
 use Rattle.cells.proofs.Lower.{below-filled, open-sets}
 use Rattle.cells.proofs.Determined.{Filled, known-filled}
@@ -30,7 +31,7 @@ use Rattle.cells.proofs.Exhausted.{empty-outside}
 module _
     (J : Job) (job : IsJob J) (t : Table) (sound : Sound J t) (still : Settled J t) (some : smallestOpen J t < subformulaCount J)
   where
-    -- The value that the sets of the smallest open subformula do not give is right at its empty cells.
+    -- The value that the smallest set of the smallest open subformula does not give is right at its empty cells.
     sets-closed :
         IsSets (ruleAt J (smallestOpen J t))
         → (n s : ℕ)
@@ -53,11 +54,6 @@ module _
         sat-label (J .structure) (J .formula) (job .operands) k some s
         ∙ ap (λ f. labelled (J .structure) (truth J) f s) (sets .is) in
         let at : ℕ → ℕ → ℕ → ℕ = λ n j s. cell J t n s j in
-        let tells : (n : ℕ) → n < J .nodes → (c : Condition) → AsksSmaller k c → (s : ℕ) → s < size J
-        → Tells 1 (known (at n) c s) (meets (truth J) c s) =
-        λ n node c o s l.
-        known-tells (at n) (truth J) k s (λ j. cell-low J t (sound .formed) n s j)
-        (λ j h. sound .tells n s j node l (omega arith)) c o in
         let filled : (n s : ℕ) → n < J .nodes → inFragment J n s ≡ true → (c : Condition) → AsksSmaller k c → Filled (known (at n) c s) =
         λ n s node i. known-filled (at n) k s (λ j h. below-filled J job t (sound .formed) still some j n s h node i) in
         let outside =
@@ -65,11 +61,8 @@ module _
         (record {
           tells =
               λ n node.
-              record {
-                owns = λ s l. valued-tells v (at n k s) (U s) small (rw (truths s) at (sound .tells n s k node l some));
-                starts = tells n node b lb;
-                grows = tells n node a la;
-              };
+              reads-sets J (truth J) k (at n) (sets .all) b a v (rw (sets .is) at (job .operands k some))
+              (rw (sets .is) at (sound-reads J job t sound n k node some));
           low = λ n s. cell-low J t (sound .formed) n s k;
           started = λ n s node i. filled n s node i b lb;
           grown = λ n s node i. filled n s node i a la;

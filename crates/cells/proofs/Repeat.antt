@@ -9,7 +9,7 @@ use mathlib.Core.Logic.{⊎-elim}
 use native.Mathlib.Omega.{arith}
 use lib.ListN.{getD}
 use Rattle.law.specs.Fixpoint.{member}
-use Rattle.law.proofs.Bool.{split, clash, cond-false, and-left, and-no-left, and-no-right, or-left, or-right, or-cases}
+use Rattle.law.proofs.Bool.{split, clash, cond-true, cond-false, and-left, and-no-left, and-no-right, or-left, or-right, or-cases}
 use Rattle.law.proofs.Bounded.{by-equal}
 use Rattle.law.proofs.Lists.{tab-at}
 use Rattle.job.specs.Job.{Job, dual, size}
@@ -19,7 +19,7 @@ use Rattle.cells.specs.Table.{isEmpty}
 use Rattle.cells.specs.SetRule.{SetRule, smallest, largest, bySets}
 use Rattle.cells.proofs.Fill.{is-empty, not-empty}
 use Rattle.cells.specs.Sets.{Joins, already, starts, grows, Stays, other, blocked, follows}
-use Rattle.cells.proofs.Sets.{smallest-is, stays-monotone, stays-intro, stays-reason, largest-is}
+use Rattle.cells.proofs.Sets.{smallest-is, smallest-no-other, stays-monotone, stays-intro, stays-reason, largest-is}
 
 pub inner-inside : (J : Job) (n s : ℕ) → inner J n s ≡ true → inFragment J n s ≡ true
 unfolding inner
@@ -36,6 +36,27 @@ module _ (J : Job) (n : ℕ) (own : ℕ → ℕ) (R : SetRule) where
   pub bySets-at : (s : ℕ) → s < size J → getD (bySets J n own R) s 2 ≡ cond (inSmallest s) (R .value) (cond (inLargest s) (1 - R .value) 2)
   unfolding bySets
   bySets-at s l = tab-at (λ u. cond (inSmallest u) (R .value) (cond (inLargest u) (1 - R .value) 2)) (size J) s 2 l
+
+  -- a filled cell its own value, and an empty one of a border state none
+  module _ (small : R .value ≤ 1) (s : ℕ) (l : s < size J) where
+    pub bySets-filled : own s ≤ 1 → getD (bySets J n own R) s 2 ≡ own s
+    bySets-filled filled =
+        let v = R .value in
+        bySets-at s l
+        ∙ by-equal (own s) v
+        (λ e. cond-true (inSmallest s) v (cond (inLargest s) (1 - v) 2) (smallest-is J n own R .joined s l (already e)) ∙ sym e)
+        (λ apart.
+        let e : own s ≡ 1 - v = omega arith in
+        cond-false (inSmallest s) v (cond (inLargest s) (1 - v) 2) (smallest-no-other J n own R small s e)
+        ∙ cond-true (inLargest s) (1 - v) 2 (largest-is J n own R (smallest J n own R) .stayed s l (other e)) ∙ sym e)
+
+    pub bySets-border : inner J n s ≡ false → own s ≡ 2 → getD (bySets J n own R) s 2 ≡ 2
+    bySets-border border empty =
+        let in-small = smallest-is J n own R .border-value s border in
+        let in-large = largest-is J n own R (smallest J n own R) .border-value s border in
+        let out-small : inSmallest s ≡ false = split (inSmallest s) (λ t. let e = in-small t in absurd (omega arith)) (λ f. f) in
+        let out-large : inLargest s ≡ false = split (inLargest s) (λ t. let e = in-large t in absurd (omega arith)) (λ f. f) in
+        bySets-at s l ∙ simp (out-small, out-large)
 
 -- By state, the cells of a subformula at node n: own, and own′ after values have been filled in.
 abbrev pub FilledIn : Job → ℕ → List ℕ → (ℕ → ℕ) → (ℕ → ℕ) → Type 0

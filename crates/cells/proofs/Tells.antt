@@ -55,6 +55,17 @@ opposite-tells c b l right =
     (λ e. rw e (false-tells (not b) (not-is-false b (right .inside e))))
     (λ e. rw e (empty-tells (not b)))
 
+-- back from the other value
+pub opposite-zero : (c : ℕ) → c ≤ 2 → opposite c ≡ 1 → c ≡ 0
+unfolding opposite isEmpty
+opposite-zero c low e =
+    by-cell c low (λ z. z) (λ z. absurd (omega (arith, rw z at e))) (λ z. absurd (omega (arith, rw z at e)))
+
+pub opposite-one : (c : ℕ) → c ≤ 2 → opposite c ≡ 0 → c ≡ 1
+unfolding opposite isEmpty
+opposite-one c low e =
+    by-cell c low (λ z. absurd (omega (arith, rw z at e))) (λ z. z) (λ z. absurd (omega (arith, rw z at e)))
+
 module _
     (at : ℕ → ℕ → ℕ) (T : ℕ → ℕ → Bool) (k s : ℕ)
     (low : (j : ℕ) → at j s ≤ 2) (right : (j : ℕ) → j < k → Tells 1 (at j s) (T j s))

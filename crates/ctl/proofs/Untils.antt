@@ -113,7 +113,7 @@ module _
     )
 
     -- outside the set there are that many walks on which no until holds
-    pub walks-outside :
+    walks-outside :
         (q : Quantifier) (s : ℕ) → State M s → OnWalks M (dual q) s (Never s) ↔ (not (reached M q start grow s) ≡ true)
     walks-outside q s l =
         let inside = reached M q start grow s in (

@@ -3,14 +3,14 @@
 -- rule with text x on buffer b answers a and leaves u. The words are those of `promises/specs`. Assumes nothing.
 use Prim.Native.Nat.{ℕ, _<_, _≤_}
 use mathlib.Core.Path.{_≡_}
+use mathlib.Core.Bool.{true}
 use mathlib.Core.List.{List, [], _∷_, _++_}
 use mathlib.Core.Logic.{_↔_}
 use lib.ListN.{length}
 use Rattle.text.specs.Field.{Text}
 use Rattle.job.specs.Job.{Job, Structure, forAll, exists, size, subformulaCount, subformula, owner, decode}
-use Rattle.job.specs.Formula.{parsed, isFormula}
 use Rattle.job.specs.Answer.{Answer, accepted, refused}
-use Rattle.job.specs.Questions.{textQuestions, Accepted}
+use Rattle.job.specs.Questions.{textQuestions, formulaLines, Accepted}
 use Rattle.job.specs.Read.{header, lineOf}
 use Rattle.job.specs.Written.{IsJob}
 use Rattle.job.specs.declared.subformula.Subformula.the-variants.{Eg, Ag}
@@ -18,6 +18,7 @@ use Rattle.ctl.specs.Truth.{Walk, Holds}
 use Rattle.ctl.proofs.Total.{State, Total, total-job}
 use Rattle.cells.specs.Table.{Table, cell, ownerCell}
 use Rattle.cells.specs.SetRule.{SetRule}
+use Rattle.cells.specs.Close.{isTemporal}
 use Rattle.cells.specs.Calls.{Call, step, accept, look, close, finish, questions, width, told}
 use Rattle.cells.specs.Cases.{bytes, jobV, job2, job3}
 use Rattle.cells.specs.AllAlong.{ringJob, impliesJob}
@@ -33,10 +34,10 @@ use Rattle.rule_text.proofs.Prefixes.{prefix-means}
 use Rattle.rule_text.proofs.Worked.{exampleRule, example-limits}
 use Rattle.promises.specs.Contracts.{Loan, Happens, Reads, HandsBack, Prints, Rules, PrintsRule, MayHappen}
 use Rattle.promises.specs.Demand1.{AnswersBy}
-use Rattle.promises.specs.Demand2.{Accepts, JobText, ruled, FilledByRules, SmallestAndLargest, Judged}
-use Rattle.promises.specs.Demand3.{FreshFor, ListOfCalls, leftBy, AsDefined, CellsTrue, OneMoreFinish, OneMachine}
+use Rattle.promises.specs.Demand2.{Accepts, JobText, FilledByRules, SmallestAndLargest, Judged}
+use Rattle.promises.specs.Demand3.{FreshFor, ListOfCalls, leftBy, toldBy, AsDefined, CellsTrue, OneMoreFinish, OneMachine}
 use Rattle.promises.specs.UnnamedNode.{unnamedQuestions, unknownNodeQuestions}
-use Rattle.promises.specs.AllAlong.{admitted, BySets, ClosedByKind}
+use Rattle.promises.specs.AllAlong.{HasLine, FilledAllAlong, ClosedByKind, kindsAdmitted}
 use Rattle.promises.specs.RuleText.{LinesWritten, LastLineIsTruth, LinesInOrder, InJob, RulePrinted}
 use Rattle.demands.specs.Functions.{AsksNothing, Proved}
 use Rattle.demands.proofs.Proved.{asks-nothing, proved}
@@ -48,7 +49,7 @@ use Rattle.promises.proofs.Ends.{calls-defined, calls-cells, calls-finish, fres
 use Rattle.promises.proofs.Judged.{prints-judged}
 use Rattle.promises.proofs.RuleText.{rules-first, rules-stay, rules-exact, rules-written, rules-in-job, means-in-order, rules-agree, prints-rule}
 use Rattle.promises.proofs.UnnamedNode.{happens-named, happens-owner, happens-unnamed, happens-never-18, happens-step-255, happens-accept-255}
-use Rattle.promises.proofs.AllAlong.{question-8, eg-walks, ag-walks, happens-eg, happens-ag, happens-closed}
+use Rattle.promises.proofs.AllAlong.{eg-walks, ag-walks, eg-ag-temporal, happens-eg, happens-ag, happens-closed, question-8}
 use Rattle.promises.proofs.Hypotheses.{lent, fresh-for, one-machine, example, looked, has-eg, has-ag, ring-example}
 
 -- Demand 1. "Any bytes and any numbers:
@@ -196,11 +197,7 @@ module _ (l : Loan) (x : Text) (t u : Table) (a : Answer) where
   pub accept-refuses-255 : (s k v : ℕ) → Happens l x (accept 255 s k v) t a u → AnswersBy (unknownNodeQuestions x t) 1 [] a
   accept-refuses-255 = happens-accept-255 x t l a u
 
--- Request (iii), rules that hold all along. "Question 8 admits 1 to 9":
-pub question-8-admits : (k kind a b : ℕ) → isFormula (parsed k kind a b) ≡ admitted k kind a b
-question-8-admits = question-8
-
--- "EG a: on some walk a holds everywhere; AG a: on every walk."
+-- Request (iii), rules that hold all along. "EG a: on some walk a holds everywhere; AG a: on every walk."
 module _ (J : Job) (is : IsJob J) (k a s : ℕ) (l : k < subformulaCount J) where
   pub eg-on-some-walk :
       subformula (J .formula) k ≡ Eg a
@@ -214,21 +211,28 @@ module _ (J : Job) (is : IsJob J) (k a s : ℕ) (l : k < subformulaCount J) wher
       ↔ ((w : Walk (J .structure) s) (i : ℕ) → Holds (J .structure) (J .formula) a (w .at i))
   ag-on-every-walk = ag-walks J is k a l s
 
+-- "With b 0 and both temporal" (b: see question 8):
+pub both-temporal :
+    (J : Job) (k a : ℕ)
+    → (subformula (J .formula) k ≡ Eg a → isTemporal J k ≡ true) × (subformula (J .formula) k ≡ Ag a → isTemporal J k ≡ true)
+both-temporal = eg-ag-temporal
+
 -- "In a step EG's true cells are the largest set already true, or with a true and some successor in the set. Its false cells are the smallest
--- set already false, or with a false, or with all successors in the set. AG has all for some and some for all":
+-- set already false, or with a false, or with all successors in the set. AG has all for some and some for all; document 01's restriction on
+-- smallest and largest sets binds these too." The quantifier named here is that of the false cells.
 module _ (l : Loan) (x : Text) (t u : Table) (own : List ℕ) (n k a : ℕ) where
   pub eg-fills-by-its-sets :
       Happens l x (step n) t (accepted own) u
       → k < subformulaCount (decode x)
       → subformula (decode x .formula) k ≡ Eg a
-      → BySets (decode x) n (λ s. cell (decode x) t n s k) (λ s. cell (decode x) u n s a) forAll (ruled (decode x) n t u k)
+      → FilledAllAlong (decode x) n (λ s. cell (decode x) t n s k) (λ s. cell (decode x) u n s a) forAll (λ s. cell (decode x) u n s k)
   eg-fills-by-its-sets = happens-eg l x t u own n k a
 
   pub ag-fills-by-its-sets :
       Happens l x (step n) t (accepted own) u
       → k < subformulaCount (decode x)
       → subformula (decode x .formula) k ≡ Ag a
-      → BySets (decode x) n (λ s. cell (decode x) t n s k) (λ s. cell (decode x) u n s a) exists (ruled (decode x) n t u k)
+      → FilledAllAlong (decode x) n (λ s. cell (decode x) t n s k) (λ s. cell (decode x) u n s a) exists (λ s. cell (decode x) u n s k)
   ag-fills-by-its-sets = happens-ag l x t u own n k a
 
 -- "Close now fills by kind: 0 for kinds 6 and 7, 1 for kinds 8 and 9."
@@ -236,7 +240,11 @@ pub close-fills-by-kind :
     (l : Loan) (x : Text) (t u : Table) (own : List ℕ) → Happens l x close t (accepted own) u → ClosedByKind (decode x) t own u
 close-fills-by-kind = happens-closed
 
--- "Rule text takes `EG` and `AG` as prefixes like `AX`": behind each of them, as behind every prefix, a rule in parentheses is a rule.
+-- "Question 8 admits 1 to 9",
+pub question-8-admits : (x : Text) → formulaLines x ≡ kindsAdmitted x
+question-8-admits = question-8
+
+-- "and rule text takes `EG` and `AG` as prefixes like `AX`": behind each of them, as behind every prefix, a rule in parentheses is a rule.
 pub prefixes-alike :
     (p : PrefixOperator) (x : Text) (f : Tree) → Means x f → Means (spelling (Prefix p) ++ (40 ∷ (x ++ (41 ∷ [])))) (prefix p f)
 prefixes-alike = prefix-means
@@ -255,7 +263,10 @@ fresh-tables x is = (_, fresh-for x is)
 pub two-cuttings : OneMachine (bytes jobV) (bytes job3)
 two-cuttings = one-machine
 
-pub calls-with-messages : ListOfCalls (bytes job2)
+pub calls-with-messages :
+    (calls : ListOfCalls (bytes job2))
+    × (toldBy calls
+    ≡ accepted (5 ∷ []) ∷ accepted (1 ∷ 2 ∷ 1 ∷ []) ∷ accepted (1 ∷ []) ∷ accepted (0 ∷ []) ∷ refused 16 0 1 ∷ refused 1 1 2 ∷ [])
 calls-with-messages = example
 
 pub a-rule-in-limits : (b : List ℕ) → length b ≡ 512 → InLimits exampleRule b
@@ -267,11 +278,14 @@ jobs-have-edges-out = total-job
 pub a-look-without-a-node : (t : Table) × Happens lent (bytes job2) (look 255 1 2) t (accepted (1 ∷ [])) t
 a-look-without-a-node = looked
 
-pub a-job-with-eg : (1 < subformulaCount (decode (bytes ringJob))) × (subformula (decode (bytes ringJob) .formula) 1 ≡ Eg 0)
+pub a-job-with-eg : HasLine (bytes ringJob) 1 (Eg 0)
 a-job-with-eg = has-eg
 
-pub a-job-with-ag : (1 < subformulaCount (decode (bytes impliesJob))) × (subformula (decode (bytes impliesJob) .formula) 1 ≡ Ag 0)
+pub a-job-with-ag : HasLine (bytes impliesJob) 1 (Ag 0)
 a-job-with-ag = has-ag
 
-pub calls-all-along : ListOfCalls (bytes ringJob)
+pub calls-all-along :
+    (calls : ListOfCalls (bytes ringJob))
+    × (toldBy calls
+    ≡ accepted (2 ∷ []) ∷ accepted (2 ∷ []) ∷ accepted (1 ∷ 4 ∷ []) ∷ accepted (0 ∷ 1 ∷ 1 ∷ []) ∷ accepted (0 ∷ []) ∷ [])
 calls-all-along = ring-example

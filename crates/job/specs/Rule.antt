@@ -57,7 +57,7 @@ InRange k (And a b) = (a < k) × (b < k)
 InRange k (Next all a) = a < k
 InRange k (Sets all start grow v) = AsksSmaller k start × AsksSmaller k grow × (v ≤ 1)
 
--- "Kinds 4 to 7 are temporal", and document 02 (iii), 8 and 9: those that look at successors
+-- "Kinds 4 to 7 are temporal"; document 02 (iii), of 8 and 9: "both temporal": those that look at successors
 abbrev pub temporal : Rule → Bool
 temporal (Atom j) = false
 temporal (Not a) = false

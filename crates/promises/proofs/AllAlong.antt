@@ -1,7 +1,7 @@
--- What request (iii) promises, from the laws of the one set rule: EG and AG on walks, their sets in a step, and close by kind. Assumes
--- nothing.
-use Prim.Native.Nat.{ℕ, _<_, _≤_}
-use mathlib.Core.Path.{_≡_, refl, sym, _∙_, ap, subst}
+-- What request (iii) promises, from the laws of the one set rule: EG and AG on walks, that they are temporal, their sets in a step, close
+-- by kind, and question 8. Assumes nothing.
+use Prim.Native.Nat.{ℕ, _+_, _<_, _≤_}
+use mathlib.Core.Path.{_≡_, refl, sym, _∙_, ap, subst, fun-ext}
 use mathlib.Core.Bool.{Bool, true, false, cond, _&&_}
 use mathlib.Core.List.{List, [], _∷_}
 use mathlib.Core.Logic.{_↔_}
@@ -15,16 +15,17 @@ use Rattle.law.specs.Lists.{some}
 use Rattle.law.proofs.Bool.{split, cond-false}
 use Rattle.law.proofs.Bounded.{by-equal}
 use Rattle.text.specs.Field.{Text}
-use Rattle.job.specs.Job.{Job, Quantifier, forAll, exists, decode, subformulaCount, subformula}
+use Rattle.job.specs.Job.{Job, Quantifier, forAll, exists, decode, size, subformulaCount, subformula}
 use Rattle.job.specs.Formula.{atomic, unary, binary, parsed, fields, isFormula}
-use Rattle.job.specs.Rule.{ruleOf, ruleAt, closedValue, quantifier, IsSets, InRange}
+use Rattle.job.specs.Rule.{ruleOf, ruleAt, temporal, closedValue, quantifier, IsSets, InRange}
 use Rattle.job.specs.Answer.{accepted}
+use Rattle.job.specs.Questions.{ofLines, formulaOk, formulaLines}
+use Rattle.job.specs.Layout.{states, edges, subformulas, kindField, leftField, rightField}
 use Rattle.job.specs.Written.{IsJob}
 use Rattle.job.specs.declared.subformula.Subformula.{Subformula}
 use Rattle.job.specs.declared.subformula.Subformula.the-variants.{Atom, Not, And, Ax, Ex, Au, Eu, Eg, Ag}
 use Rattle.job.specs.declared.subformula.Parsed.the-variants.{Formula, Malformed}
 use Rattle.job.specs.declared.rule.Condition.the-variants.{Always, Fails}
-use Rattle.job.specs.declared.rule.Rule.{Rule}
 use Rattle.job.specs.declared.rule.Rule.the-variants.{Sets}
 use Rattle.job.proofs.Exact.{decode-is-job}
 use Rattle.job.proofs.RuleLaws.{not-sets}
@@ -34,20 +35,21 @@ use Rattle.cells.specs.Table.{Table, cell, isEmpty, filled}
 use Rattle.cells.specs.SetRule.{SetRule, setRule, smallest, largest}
 use Rattle.cells.specs.Sets as sets
 use Rattle.cells.specs.Step.{opposite, known, column, stepTable}
-use Rattle.cells.specs.Close.{smallestOpen, closeTable}
+use Rattle.cells.specs.Close.{isTemporal, smallestOpen, closeTable}
 use Rattle.cells.specs.Calls.{step, close, told, left}
-use Rattle.cells.proofs.Fill.{fill-cell, fill-cell-left}
+use Rattle.cells.proofs.Fill.{fill-length, fill-cell, fill-cell-left}
 use Rattle.cells.proofs.Formed.{cell-low, stepTable-formed}
 use Rattle.cells.proofs.Lower.{open-sets}
 use Rattle.cells.proofs.Repeat.{bySets-at}
 use Rattle.cells.proofs.Sets.{smallest-is, largest-is}
 use Rattle.cells.proofs.Settled.{settled-is}
-use Rattle.cells.proofs.Tells.{by-cell}
+use Rattle.cells.proofs.Tells.{opposite-zero, opposite-one}
 use Rattle.promises.specs.Contracts.{Loan, Happens}
 use Rattle.promises.specs.Demand2.{ruled}
-use Rattle.promises.specs.AllAlong.{admitted, FalseIn, TrueIn, BySets, ClosesTo, six, seven, eight, nine, kindOf, ClosedByKind}
+use Rattle.promises.specs.AllAlong.{FalseIn, TrueIn, FilledAllAlong, ClosesTo, six, seven, eight, nine, kindOf, ClosedByKind, admitted, kindsAdmitted}
 use Rattle.promises.proofs.Contracts.{happens-defined}
 use Rattle.promises.proofs.Calls.{accepted-taken, taken-told, taken-left, taken-accepted, close-asked, step-formed, close-formed}
+use Rattle.promises.proofs.Filled.{happens-filled, sets-ruled}
 
 -- "EG a: on some walk a holds everywhere; AG a: on every walk."
 module _ (J : Job) (is : IsJob J) (k a : ℕ) (l : k < subformulaCount J) (s : ℕ) where
@@ -64,47 +66,14 @@ module _ (J : Job) (is : IsJob J) (k a : ℕ) (l : k < subformulaCount J) (s : �
   unfolding meaning OnWalks Throughout subformulaCount
   ag-walks e = rw e at (holds-meaning (J .structure) (J .formula) (is .operands) k l s)
 
--- "Question 8 admits 1 to 9": by the nine kinds.
-formula-if : (c : Bool) (f : Subformula) → isFormula (cond c (Formula f) Malformed) ≡ c
-unfolding isFormula
-formula-if true f = refl
-formula-if false f = refl
-
-pub question-8 : (k kind a b : ℕ) → isFormula (parsed k kind a b) ≡ admitted k kind a b
-unfolding parsed atomic unary binary isFormula admitted some
-question-8 k kind a b =
-    by-equal kind 1 (λ e. rw e (formula-if (leb a 15 && eqb b 0) (Atom a))) λ n1.
-    by-equal kind 2 (λ e. rw e (formula-if (ltb a k && eqb b 0) (Not a))) λ n2.
-    by-equal kind 3 (λ e. rw e (formula-if (ltb a k && ltb b k) (And a b))) λ n3.
-    by-equal kind 4 (λ e. rw e (formula-if (ltb a k && eqb b 0) (Ax a))) λ n4.
-    by-equal kind 5 (λ e. rw e (formula-if (ltb a k && eqb b 0) (Ex a))) λ n5.
-    by-equal kind 6 (λ e. rw e (formula-if (ltb a k && ltb b k) (Au a b))) λ n6.
-    by-equal kind 7 (λ e. rw e (formula-if (ltb a k && ltb b k) (Eu a b))) λ n7.
-    by-equal kind 8 (λ e. rw e (formula-if (ltb a k && eqb b 0) (Eg a))) λ n8.
-    by-equal kind 9 (λ e. rw e (formula-if (ltb a k && eqb b 0) (Ag a))) λ n9.
-    simp (
-      ne-eqb kind 1 n1,
-      ne-eqb kind 2 n2,
-      ne-eqb kind 3 n3,
-      ne-eqb kind 4 n4,
-      ne-eqb kind 5 n5,
-      ne-eqb kind 6 n6,
-      ne-eqb kind 7 n7,
-      ne-eqb kind 8 n8,
-      ne-eqb kind 9 n9,
-    )
+-- "both temporal"
+pub eg-ag-temporal :
+    (J : Job) (k a : ℕ)
+    → (subformula (J .formula) k ≡ Eg a → isTemporal J k ≡ true) × (subformula (J .formula) k ≡ Ag a → isTemporal J k ≡ true)
+unfolding isTemporal
+eg-ag-temporal J k a = (ap (λ f. temporal (ruleOf f)), ap (λ f. temporal (ruleOf f)))
 
 -- The sets of the rule are those of the request, where it starts at "a false" and grows everywhere.
-opposite-zero : (c : ℕ) → c ≤ 2 → opposite c ≡ 1 → c ≡ 0
-unfolding opposite isEmpty
-opposite-zero c low e =
-    by-cell c low (λ z. z) (λ z. absurd (omega (arith, rw z at e))) (λ z. absurd (omega (arith, rw z at e)))
-
-opposite-one : (c : ℕ) → c ≤ 2 → opposite c ≡ 0 → c ≡ 1
-unfolding opposite isEmpty
-opposite-one c low e =
-    by-cell c low (λ z. absurd (omega (arith, rw z at e))) (λ z. z) (λ z. absurd (omega (arith, rw z at e)))
-
 module _ (J : Job) (n : ℕ) (at : ℕ → ℕ → ℕ) (low : (j s : ℕ) → at j s ≤ 2) (k a : ℕ) (all : Bool) where
   abbrev own : ℕ → ℕ
   own = at k
@@ -141,19 +110,24 @@ module _ (J : Job) (n : ℕ) (at : ℕ → ℕ → ℕ) (low : (j s : ℕ) → a
   stays-true X s (sets.blocked e out i z g) = absurd (omega arith)
   stays-true X s (sets.follows e out i z over) = TrueIn.follows e out i (opposite-one (at a s) (low a s) z) over
 
-  all-along-sets : BySets J n own (at a) q (λ s. getD (column J n at k (Sets all (Fails a) Always 0)) s 2)
+  all-along-sets :
+      (after : ℕ → ℕ)
+      → ((s : ℕ) → s < size J → after s ≡ getD (column J n at k (Sets all (Fails a) Always 0)) s 2)
+      → FilledAllAlong J n own (at a) q after
   unfolding column
-  all-along-sets =
+  all-along-sets after is =
       let small = smallest-is J n own R in
       let large = largest-is J n own R L in
       record {
         falses = member L;
+        false-states = small .states;
         joined = λ s l why. small .joined s l (false-joins (member L) s why);
         smallest = λ Y closed. small .within-each Y (λ s l why. closed s l (joins-false Y s why));
         trues = member (largest J n own R L);
+        true-states = large .states;
         reason = λ s e. stays-true (member (largest J n own R L)) s (large .reason s e);
         largest = λ Y bound held. large .holds-each Y bound (λ s e. true-stays Y s (held s e));
-        taken = bySets-at J n own R;
+        cells = λ s l. is s l ∙ bySets-at J n own R s l;
       }
 
 -- What goes by sets closes by its kind.
@@ -179,7 +153,7 @@ module _ (l : Loan) (x : Text) (t u : Table) (given : List ℕ) where
       → Happens l x (step n) t (accepted given) u
       → k < subformulaCount J
       → ruleAt J k ≡ Sets all (Fails a) Always 0
-      → BySets J n (λ s. cell J t n s k) (λ s. cell J u n s a) (quantifier all) (ruled J n t u k)
+      → FilledAllAlong J n (λ s. cell J t n s k) (λ s. cell J u n s a) (quantifier all) (λ s. cell J u n s k)
   unfolding ruled left InRange
   happens-along n k a all happens below rule =
       let (told-is, left-is) = happens-defined l x (step n) t (accepted given) u happens in
@@ -193,16 +167,23 @@ module _ (l : Loan) (x : Text) (t u : Table) (given : List ℕ) where
       (λ e. rw (e, after) (cell-low J (stepTable J n t) (stepTable-formed J t formed n) n s j))
       (λ e. rw e (cell-low J t formed n s j)) in
       let smaller = rw rule at (decode-is-job x (taken-accepted (step n) x t taken) .operands k below) in
-      rw (le-ltb k k (le-refl k), lt-ltb a k (smaller .0)) at
-      (subst (λ (r : Rule). BySets J n (at k) (at a) (quantifier all) (λ s. getD (column J n at k r) s 2)) (sym rule)
-      (all-along-sets J n at low k a all))
+      let sets : IsSets (ruleAt J k) = record { all = all; start = Fails a; grow = Always; value = 0; is = rule } in
+      let ruled-is : (s : ℕ) → s < size J → cell J u n s k ≡ getD (column J n at k (Sets all (Fails a) Always 0)) s 2 =
+      λ s h.
+      sets-ruled J n k t u given formed (happens-filled l x n t u given happens) sets (omega arith) below s h
+      ∙ ap (λ r. getD (column J n at k r) s 2) rule in
+      subst (λ own. FilledAllAlong J n own (λ s. cell J u n s a) (quantifier all) (λ s. cell J u n s k))
+      (ap (λ b s. cell J (cond b u t) n s k) (le-ltb k k (le-refl k)))
+      (subst (λ operand. FilledAllAlong J n (at k) operand (quantifier all) (λ s. cell J u n s k))
+      (ap (λ b s. cell J (cond b u t) n s a) (lt-ltb a k (smaller .0)))
+      (all-along-sets J n at low k a all (λ s. cell J u n s k) ruled-is))
 
   pub happens-eg :
       (n k a : ℕ)
       → Happens l x (step n) t (accepted given) u
       → k < subformulaCount J
       → subformula (J .formula) k ≡ Eg a
-      → BySets J n (λ s. cell J t n s k) (λ s. cell J u n s a) forAll (ruled J n t u k)
+      → FilledAllAlong J n (λ s. cell J t n s k) (λ s. cell J u n s a) forAll (λ s. cell J u n s k)
   happens-eg n k a happens below is = happens-along n k a true happens below (ap ruleOf is)
 
   pub happens-ag :
@@ -210,7 +191,7 @@ module _ (l : Loan) (x : Text) (t u : Table) (given : List ℕ) where
       → Happens l x (step n) t (accepted given) u
       → k < subformulaCount J
       → subformula (J .formula) k ≡ Ag a
-      → BySets J n (λ s. cell J t n s k) (λ s. cell J u n s a) exists (ruled J n t u k)
+      → FilledAllAlong J n (λ s. cell J t n s k) (λ s. cell J u n s a) exists (λ s. cell J u n s k)
   happens-ag n k a happens below is = happens-along n k a false happens below (ap ruleOf is)
 
   pub happens-closed : Happens l x close t (accepted given) u → ClosedByKind J t given u
@@ -229,6 +210,7 @@ module _ (l : Loan) (x : Text) (t u : Table) (given : List ℕ) where
       rw (given-is, after)
       (record {
         told = refl;
+        long = fill-length J _ t;
         value = v;
         by-kind = sets-kind (subformula (J .formula) k) (open-sets J job t formed (settled-is J t (formed .long) still) some-open);
         cells =
@@ -237,3 +219,38 @@ module _ (l : Loan) (x : Text) (t u : Table) (given : List ℕ) where
             (λ e. fill-cell J _ t n s j b c ∙ simp e)
             (λ e. fill-cell-left J _ t n s j b c (cond-false (eqb j k) v 2 e) ∙ simp e);
       })
+
+-- "Question 8 admits 1 to 9": by the nine kinds.
+formula-if : (c : Bool) (f : Subformula) → isFormula (cond c (Formula f) Malformed) ≡ c
+unfolding isFormula
+formula-if true f = refl
+formula-if false f = refl
+
+kind-admitted : (k kind a b : ℕ) → isFormula (parsed k kind a b) ≡ admitted k kind a b
+unfolding parsed atomic unary binary isFormula admitted some
+kind-admitted k kind a b =
+    by-equal kind 1 (λ e. rw e (formula-if (leb a 15 && eqb b 0) (Atom a))) λ n1.
+    by-equal kind 2 (λ e. rw e (formula-if (ltb a k && eqb b 0) (Not a))) λ n2.
+    by-equal kind 3 (λ e. rw e (formula-if (ltb a k && ltb b k) (And a b))) λ n3.
+    by-equal kind 4 (λ e. rw e (formula-if (ltb a k && eqb b 0) (Ax a))) λ n4.
+    by-equal kind 5 (λ e. rw e (formula-if (ltb a k && eqb b 0) (Ex a))) λ n5.
+    by-equal kind 6 (λ e. rw e (formula-if (ltb a k && ltb b k) (Au a b))) λ n6.
+    by-equal kind 7 (λ e. rw e (formula-if (ltb a k && ltb b k) (Eu a b))) λ n7.
+    by-equal kind 8 (λ e. rw e (formula-if (ltb a k && eqb b 0) (Eg a))) λ n8.
+    by-equal kind 9 (λ e. rw e (formula-if (ltb a k && eqb b 0) (Ag a))) λ n9.
+    simp (
+      ne-eqb kind 1 n1,
+      ne-eqb kind 2 n2,
+      ne-eqb kind 3 n3,
+      ne-eqb kind 4 n4,
+      ne-eqb kind 5 n5,
+      ne-eqb kind 6 n6,
+      ne-eqb kind 7 n7,
+      ne-eqb kind 8 n8,
+      ne-eqb kind 9 n9,
+    )
+
+pub question-8 : (x : Text) → formulaLines x ≡ kindsAdmitted x
+unfolding formulaLines formulaOk
+question-8 x =
+    ap (λ p. ofLines 8 p (subformulas x) (2 + states x + edges x)) (fun-ext (λ k. kind-admitted k (kindField x k) (leftField x k) (rightField x k)))

@@ -8,24 +8,27 @@ use native.Mathlib.Omega.{arith}
 use borrow.Author.Tests.{lt-ltb, le-ltb}
 use lib.ListN.{getD}
 use lib.Dec.{ltb}
-use Rattle.law.proofs.Bool.{cond-true, and-intro}
+use Rattle.law.proofs.Bool.{split, cond-true, and-intro}
 use Rattle.text.specs.Field.{Text}
 use Rattle.job.specs.Job.{Job, decode, size, subformulaCount}
-use Rattle.job.specs.Rule.{ruleAt}
+use Rattle.job.specs.Rule.{ruleAt, quantifier, IsSets}
 use Rattle.job.specs.Answer.{accepted}
 use Rattle.job.specs.Written.{IsJob}
 use Rattle.job.proofs.Exact.{decode-is-job}
-use Rattle.cells.specs.Fragment.{inFragment}
+use Rattle.cells.specs.Fragment.{inFragment, inner}
 use Rattle.cells.specs.Table.{Table, index, cell, isEmpty, inside, filled}
-use Rattle.cells.specs.SetRule.{SetRule, smallest}
-use Rattle.cells.specs.Step.{stepUpTo, stepTable}
+use Rattle.cells.specs.SetRule.{SetRule, setRule, smallest, bySets}
+use Rattle.cells.specs.Step.{known, stepUpTo, stepTable}
 use Rattle.cells.specs.Calls.{step, told, left}
 use Rattle.cells.proofs.Index.{nodeOf-index, stateOf-index}
 use Rattle.cells.proofs.Fill.{is-empty}
 use Rattle.cells.proofs.Kept.{stepUpTo-keeps}
-use Rattle.cells.proofs.Columns.{column-same}
+use Rattle.cells.proofs.Columns.{column-same, sets-column}
+use Rattle.cells.proofs.Formed.{Formed, cell-low}
 use Rattle.cells.proofs.Local.{columnOf, stepColumn-cell, stepColumn-other, stepTable-node, read-lt}
 use Rattle.cells.proofs.Sets.{smallest-is, largest-is}
+use Rattle.cells.proofs.Repeat.{bySets-filled, bySets-border}
+use Rattle.cells.proofs.Tells.{by-cell}
 use Rattle.cells.proofs.Grown.{stepTable-grown}
 use Rattle.promises.specs.Contracts.{Loan, Happens}
 use Rattle.promises.specs.Demand2.{ruled, FilledByRules, SmallestAndLargest}
@@ -108,6 +111,43 @@ happens-filled l x n t u own happens =
     let same : accepted own ≡ accepted (filled t (stepTable (decode x) n t) ∷ []) = told-is ∙ taken-told (step n) x t taken in
     let own-is : own ≡ filled t (stepTable (decode x) n t) ∷ [] = cc in
     rw (own-is, u-is) (step-filled (decode x) (decode-is-job x (taken-accepted (step n) x t taken)) n t)
+
+-- Of a rule that goes by sets the step leaves what the sets give at every state: a filled cell is in its set, and an empty one outside the
+-- fragment in neither.
+module _
+    (J : Job) (n k : ℕ) (t u : Table) (own : List ℕ) (formed : Formed J t) (done : FilledByRules J n t own u)
+    (sets : IsSets (ruleAt J k)) (small : sets .value ≤ 1) (under : k < subformulaCount J) (s : ℕ) (l : s < size J)
+  where
+    abbrev at : ℕ → ℕ → ℕ
+    at j r = cell J (cond (ltb j k) u t) n r j
+
+    abbrev R : SetRule
+    R = setRule (quantifier (sets .all)) (known at (sets .start)) (known at (sets .grow)) (sets .value)
+
+    own-cell : at k s ≡ cell J t n s k
+    own-cell = rw (le-ltb k k (le-refl k)) refl
+
+    by-its-sets : getD (bySets J n (at k) R) s 2 ≡ ruled J n t u k s
+    unfolding ruled
+    by-its-sets = sym (ap (λ c. getD c s 2) (sets-column J n at k (ruleAt J k) sets))
+
+    filled-ruled : cell J t n s k ≤ 1 → cell J u n s k ≡ ruled J n t u k s
+    unfolding cell
+    filled-ruled low =
+        done .kept (index J n s k) (λ e. omega arith) ∙ sym own-cell
+        ∙ sym (bySets-filled J n (at k) R small s l (rw own-cell low)) ∙ by-its-sets
+
+    outside-ruled : cell J t n s k ≡ 2 → inFragment J n s ≡ false → cell J u n s k ≡ ruled J n t u k s
+    unfolding inner
+    outside-ruled empty out =
+        done .outside s k l under out ∙ empty ∙ sym (bySets-border J n (at k) R small s l (simp out) (own-cell ∙ empty)) ∙ by-its-sets
+
+    pub sets-ruled : cell J u n s k ≡ ruled J n t u k s
+    sets-ruled =
+        by-cell (cell J t n s k) (cell-low J t formed n s k)
+        (λ e. filled-ruled (omega arith))
+        (λ e. filled-ruled (omega arith))
+        (λ e. split (inFragment J n s) (λ inside. done .taken s k l under inside e) (outside-ruled e))
 
 pub sets-are : (J : Job) (n : ℕ) (own : ℕ → ℕ) (R : SetRule) → SmallestAndLargest J n own R
 sets-are J n own R = (smallest-is J n own R, largest-is J n own R (smallest J n own R))

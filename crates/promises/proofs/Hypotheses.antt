@@ -1,27 +1,29 @@
--- The hypotheses of demand 3 and of requests (ii) and (iii) can be met: every list of calls can be made, every accepted text has a table fresh for it, one machine has two
--- cuttings, and there is a list with a message in it: on case C2 node 1 steps and offers what it knows of its border state, node 0 accepts
--- it, accepts it again, and node 1 and an empty text are refused; and a look without a node is accepted there; and a list
--- on a ring with EG in which a close fills 1. Assumes nothing.
-use Prim.Native.Nat.{ℕ, _<_}
+-- The hypotheses of demand 3 and of requests (ii) and (iii) can be met: every list of calls can be made, every accepted text has a table
+-- fresh for it, one machine has two cuttings, and there is a list with a message in it: on case C2 node 1 steps and offers what it knows of
+-- its border state, node 0 accepts it, accepts it again, and node 1 and an empty text are refused; a look without a node is accepted there;
+-- there are jobs with EG and with AG, and a list on a ring with EG in which a close fills 1. Assumes nothing.
+use Prim.Native.Nat.{ℕ}
 use Prim.Native.String.{String}
-use mathlib.Core.Path.{_≡_, refl, sym, subst}
-use mathlib.Core.List.{List, [], _∷_, map, List·Memᴰ, List·Memᴰ·head}
-use native.Mathlib.Omega.{arith}
+use mathlib.Core.Path.{_≡_, refl, sym, _∙_, ap, subst}
+use mathlib.Core.Bool.{Bool, true, false, true≢false}
+use mathlib.Core.List.{List, [], _∷_, List·Memᴰ, List·Memᴰ·head}
 use lib.ListN.{length-replicate}
 use lib.Dec.{lit≤}
 use Rattle.text.specs.Field.{Text}
-use Rattle.job.specs.Job.{decode, subformulaCount, subformula}
+use Rattle.job.specs.Job.{decode, subformula}
 use Rattle.job.specs.declared.subformula.Subformula.the-variants.{Eg, Ag}
 use Rattle.job.specs.Answer.{accepted, refused}
 use Rattle.job.specs.Questions.{Accepted}
+use Rattle.job.proofs.Exact.{decode-is-job}
 use Rattle.cells.specs.Table.{Table, tableLength}
-use Rattle.cells.specs.Calls.{Call, fresh, step, offer, accept, look, close, answer, after}
+use Rattle.cells.specs.Calls.{Call, fresh, step, offer, accept, look, close, finish, answer, after}
 use Rattle.cells.specs.Cases.{bytes, jobV, job2, job3, zeros}
 use Rattle.cells.specs.AllAlong.{ringJob, impliesJob}
 use Rattle.cells.proofs.CallLaws.{fresh-accepted}
 use Rattle.cells.proofs.Printed.{printed}
 use Rattle.promises.specs.Contracts.{Loan, Happens}
-use Rattle.promises.specs.Demand3.{Event, Happened, Message, handedOut, isRefused, isMeant, Meant, FreshFor, ListOfCalls, OneMachine}
+use Rattle.promises.specs.Demand3.{Event, Happened, Message, handedOut, isRefused, isMeant, Meant, FreshFor, ListOfCalls, toldBy, OneMachine}
+use Rattle.promises.specs.AllAlong.{HasLine}
 use Rattle.promises.proofs.Contracts.{may-happen}
 
 -- some references
@@ -80,15 +82,21 @@ listed x is cs meant =
       meant = meant;
     }
 
--- neither a step nor an offer nor a close is an accept; an accept's message is the one that it names
-step-none : (m : ℕ) (out : List Message) (n s k v : ℕ) → step m ≡ accept n s k v → List·Memᴰ (record { state = s; subformula = k; value = v }) out
-step-none m out n s k v e = let z : _≡_ {A = ℕ} 0 1 = cc in absurd (omega arith)
+-- an accept's message is the one that it names; no other call has one
+abbrev isAccept : Call → Bool
+isAccept fresh = false
+isAccept (step n) = false
+isAccept (offer s k) = false
+isAccept (accept n s k v) = true
+isAccept (look n s k) = false
+isAccept close = false
+isAccept finish = false
 
-offer-none : (a b : ℕ) (out : List Message) (n s k v : ℕ) → offer a b ≡ accept n s k v → List·Memᴰ (record { state = s; subformula = k; value = v }) out
-offer-none a b out n s k v e = let z : _≡_ {A = ℕ} 0 1 = cc in absurd (omega arith)
-
-close-none : (out : List Message) (n s k v : ℕ) → close ≡ accept n s k v → List·Memᴰ (record { state = s; subformula = k; value = v }) out
-close-none out n s k v e = let z : _≡_ {A = ℕ} 0 1 = cc in absurd (omega arith)
+no-message :
+    (c : Call) (out : List Message)
+    → isAccept c ≡ false
+    → (n s k v : ℕ) → c ≡ accept n s k v → List·Memᴰ (record { state = s; subformula = k; value = v }) out
+no-message c out other n s k v e = absurd (true≢false (sym (ap isAccept e) ∙ other))
 
 accept-known :
     (out : List Message) (m a b w : ℕ)
@@ -118,9 +126,9 @@ events = played calls (start (bytes job2))
 pub events-meant : Meant (bytes job2) [] events
 unfolding printed calls of-job start events played Meant handedOut
 events-meant = (
-  isMeant refl (step-none 1 []),
+  isMeant refl (no-message (step 1) [] refl),
   (
-    isMeant refl (offer-none 1 2 []),
+    isMeant refl (no-message (offer 1 2) [] refl),
     (
       isMeant refl (accept-known _ 0 1 2 1 (List·Memᴰ·head refl)),
       (isMeant refl (accept-known _ 0 1 2 1 (List·Memᴰ·head refl)), (isRefused 16 0 1 refl, (isRefused 1 1 2 refl, tt))),
@@ -129,24 +137,21 @@ events-meant = (
 )
 
 -- what the calls answered
-pub events-told :
-    map (λ e. e .told) events
-    ≡ accepted (5 ∷ []) ∷ accepted (1 ∷ 2 ∷ 1 ∷ []) ∷ accepted (1 ∷ []) ∷ accepted (0 ∷ []) ∷ refused 16 0 1 ∷ refused 1 1 2 ∷ []
-unfolding printed calls of-job start events played
-events-told = refl
-
-pub example : ListOfCalls (bytes job2)
-unfolding printed events Accepted
-example = listed (bytes job2) refl calls events-meant
+pub example :
+    (calls : ListOfCalls (bytes job2))
+    × (toldBy calls
+    ≡ accepted (5 ∷ []) ∷ accepted (1 ∷ 2 ∷ 1 ∷ []) ∷ accepted (1 ∷ []) ∷ accepted (0 ∷ []) ∷ refused 16 0 1 ∷ refused 1 1 2 ∷ [])
+unfolding printed calls of-job start events played listed Accepted
+example = (listed (bytes job2) refl calls events-meant, refl)
 
 -- Jobs with EG and with AG.
-pub has-eg : (1 < subformulaCount (decode (bytes ringJob))) × (subformula (decode (bytes ringJob) .formula) 1 ≡ Eg 0)
-unfolding printed ringJob
-has-eg = (lit≤ tt, refl)
+pub has-eg : HasLine (bytes ringJob) 1 (Eg 0)
+unfolding printed ringJob Accepted
+has-eg = (decode-is-job (bytes ringJob) refl, lit≤ tt, refl)
 
-pub has-ag : (1 < subformulaCount (decode (bytes impliesJob))) × (subformula (decode (bytes impliesJob) .formula) 1 ≡ Ag 0)
-unfolding printed impliesJob
-has-ag = (lit≤ tt, refl)
+pub has-ag : HasLine (bytes impliesJob) 1 (Ag 0)
+unfolding printed impliesJob Accepted
+has-ag = (decode-is-job (bytes impliesJob) refl, lit≤ tt, refl)
 
 -- On the ring with EG p0 both nodes step, a close fills 1, and what it filled is offered and accepted.
 unfoldable pub ring-calls : List Made
@@ -161,24 +166,21 @@ ring-events = played ring-calls (start (bytes ringJob))
 pub ring-meant : Meant (bytes ringJob) [] ring-events
 unfolding printed ringJob ring-calls of-job start ring-events played Meant handedOut
 ring-meant = (
-  isMeant refl (step-none 0 []),
+  isMeant refl (no-message (step 0) [] refl),
   (
-    isMeant refl (step-none 1 []),
-    (isMeant refl (close-none []), (isMeant refl (offer-none 0 1 []), (isMeant refl (accept-known _ 1 0 1 1 (List·Memᴰ·head refl)), tt))),
+    isMeant refl (no-message (step 1) [] refl),
+    (isMeant refl (no-message close [] refl), (isMeant refl (no-message (offer 0 1) [] refl), (isMeant refl (accept-known _ 1 0 1 1 (List·Memᴰ·head refl)), tt))),
   ),
 )
 
-pub ring-told :
-    map (λ e. e .told) ring-events
-    ≡ accepted (2 ∷ []) ∷ accepted (2 ∷ []) ∷ accepted (1 ∷ 4 ∷ []) ∷ accepted (0 ∷ 1 ∷ 1 ∷ []) ∷ accepted (0 ∷ []) ∷ []
-unfolding printed ringJob ring-calls of-job start ring-events played
-ring-told = refl
+pub ring-example :
+    (calls : ListOfCalls (bytes ringJob))
+    × (toldBy calls
+    ≡ accepted (2 ∷ []) ∷ accepted (2 ∷ []) ∷ accepted (1 ∷ 4 ∷ []) ∷ accepted (0 ∷ 1 ∷ 1 ∷ []) ∷ accepted (0 ∷ []) ∷ [])
+unfolding printed ringJob ring-calls of-job start ring-events played listed Accepted
+ring-example = (listed (bytes ringJob) refl ring-calls ring-meant, refl)
 
-pub ring-example : ListOfCalls (bytes ringJob)
-unfolding printed ringJob ring-events Accepted
-ring-example = listed (bytes ringJob) refl ring-calls ring-meant
-
--- On the same job node 1 has stepped and no message has come: the owner's cell of state 1 is filled, node 0's is not.
+-- On C2 node 1 has stepped and no message has come: the owner's cell of state 1 is filled, node 0's is not.
 looked-at : Table
 looked-at = after (step 1) (bytes job2) (start (bytes job2))
 

@@ -1,28 +1,29 @@
 -- Request (iii), rules that hold all along: kinds 8, EG a, and 9, AG a. The words of it that `demands/proofs/Demands.antt` uses. Assumes nothing.
-use Prim.Native.Nat.{ℕ, _<_}
+use Prim.Native.Nat.{ℕ, _+_, _<_}
 use mathlib.Core.Path.{_≡_}
 use mathlib.Core.Bool.{Bool, true, false, cond, _&&_}
 use mathlib.Core.List.{List, [], _∷_}
-use lib.ListN.{getD}
+use lib.ListN.{length, getD}
 use lib.Dec.{leb, ltb, eqb}
 use Rattle.law.specs.Lists.{some}
-use Rattle.job.specs.Job.{Job, Quantifier, dual, over, size, subformulaCount, subformula}
+use Rattle.text.specs.Field.{Text}
+use Rattle.job.specs.Layout.{states, edges, subformulas, kindField, leftField, rightField}
+use Rattle.job.specs.Job.{Job, Quantifier, dual, over, size, subformulaCount, subformula, decode}
 use Rattle.job.specs.Formula.{fields}
+use Rattle.job.specs.Question.{Question}
+use Rattle.job.specs.Questions.{ofLines}
+use Rattle.job.specs.Written.{IsJob}
 use Rattle.job.specs.declared.subformula.Subformula.{Subformula}
 use Rattle.cells.specs.Fragment.{inFragment, inner}
 use Rattle.cells.specs.Table.{Table, cell, isEmpty, filled}
 use Rattle.cells.specs.Close.{smallestOpen}
 
--- "Question 8 admits 1 to 9": whether it admits these numbers on the line of subformula k. "For kind 1, a is 0 to 15. For the others a is a
--- smaller subformula number. For kinds 3, 6 and 7 so is b; elsewhere b is 0."
-unfoldable pub admitted : ℕ → ℕ → ℕ → ℕ → Bool
-admitted k kind a b =
-    cond (eqb kind 1) (leb a 15 && eqb b 0)
-    (cond (some (eqb kind) (2 ∷ 4 ∷ 5 ∷ 8 ∷ 9 ∷ [])) (ltb a k && eqb b 0)
-    (cond (some (eqb kind) (3 ∷ 6 ∷ 7 ∷ [])) (ltb a k && ltb b k) false))
+-- The text is a job's, in which f is subformula k.
+abbrev pub HasLine : Text → ℕ → Subformula → Type 0
+HasLine x k f = IsJob (decode x) × (k < subformulaCount (decode x)) × (subformula (decode x .formula) k ≡ f)
 
--- The step of node n for EG a, where q is all, and for AG a, where it is some: `own` are its own cells before the step and `a` those of its
--- operand, by state. A border state counts by its own value alone.
+-- The cells of EG a at node n, by state, where q is all, and of AG a, where it is some: `own` before a step, `after` it; and those of a, `a`,
+-- which the step takes first. A border state counts by its own value alone.
 module _ (J : Job) (n : ℕ) (own a : ℕ → ℕ) (q : Quantifier) where
   -- "already false, or with a false, or with all successors in the set"
   pub data FalseIn (X : ℕ → Bool) (s : ℕ) : Type 0 where
@@ -30,7 +31,7 @@ module _ (J : Job) (n : ℕ) (own a : ℕ → ℕ) (q : Quantifier) where
     fails : own s ≡ 2 → inner J n s ≡ true → a s ≡ 0 → FalseIn X s
     follows : own s ≡ 2 → inner J n s ≡ true → over (J .structure) q s X ≡ true → FalseIn X s
 
-  -- "already true, or with a true and some successor in the set", and "no cell of the smallest", which is F
+  -- "already true, or with a true and some successor in the set"; "the largest no cell of the smallest", which is F
   pub data TrueIn (F X : ℕ → Bool) (s : ℕ) : Type 0 where
     already : own s ≡ 1 → TrueIn F X s
     follows :
@@ -41,12 +42,14 @@ module _ (J : Job) (n : ℕ) (own a : ℕ → ℕ) (q : Quantifier) where
         → over (J .structure) (dual q) s X ≡ true
         → TrueIn F X s
 
-  -- The step has these values: 0 in the smallest set that holds all that is false in it, 1 in the largest set of what is true in it.
-  pub record BySets (values : ℕ → ℕ) : Type 0 where
+  -- "Its false cells are the smallest set", of what is false in it; "EG's true cells are the largest set", of what is true in it.
+  pub record FilledAllAlong (after : ℕ → ℕ) : Type 0 where
     pub falses : ℕ → Bool
+    pub false-states : (s : ℕ) → falses s ≡ true → s < size J
     pub joined : (s : ℕ) → s < size J → FalseIn falses s → falses s ≡ true
     pub smallest : (Y : ℕ → Bool) → ((s : ℕ) → s < size J → FalseIn Y s → Y s ≡ true) → (s : ℕ) → falses s ≡ true → Y s ≡ true
     pub trues : ℕ → Bool
+    pub true-states : (s : ℕ) → trues s ≡ true → s < size J
     pub reason : (s : ℕ) → trues s ≡ true → TrueIn falses trues s
     pub largest :
         (Y : ℕ → Bool)
@@ -55,7 +58,7 @@ module _ (J : Job) (n : ℕ) (own a : ℕ → ℕ) (q : Quantifier) where
         → (s : ℕ)
         → Y s ≡ true
         → trues s ≡ true
-    pub taken : (s : ℕ) → s < size J → values s ≡ cond (falses s) 0 (cond (trues s) 1 2)
+    pub cells : (s : ℕ) → s < size J → after s ≡ cond (falses s) 0 (cond (trues s) 1 2)
 
 -- "Close now fills by kind: 0 for kinds 6 and 7, 1 for kinds 8 and 9."
 pub data ClosesTo : ℕ → ℕ → Type 0 where
@@ -72,6 +75,7 @@ kindOf f = getD (fields f) 0 0
 -- many they are.
 pub record ClosedByKind (J : Job) (t : Table) (own : List ℕ) (u : Table) : Type 0 where
   pub told : own ≡ smallestOpen J t ∷ filled t u ∷ []
+  pub long : length u ≡ length t
   pub value : ℕ
   pub by-kind : ClosesTo (kindOf (subformula (J .formula) (smallestOpen J t))) value
   pub cells :
@@ -79,3 +83,15 @@ pub record ClosedByKind (J : Job) (t : Table) (own : List ℕ) (u : Table) : Typ
       → s < size J
       → j < subformulaCount J
       → cell J u n s j ≡ cond (eqb j (smallestOpen J t) && isEmpty (cell J t n s j) && inFragment J n s) value (cell J t n s j)
+
+-- "Question 8 admits 1 to 9": whether it admits these numbers on the line of subformula k. "For kind 1, a is 0 to 15. For the others a is a
+-- smaller subformula number. For kinds 3, 6 and 7 so is b; elsewhere b is 0."
+unfoldable pub admitted : ℕ → ℕ → ℕ → ℕ → Bool
+admitted k kind a b =
+    cond (eqb kind 1) (leb a 15 && eqb b 0)
+    (cond (some (eqb kind) (2 ∷ 4 ∷ 5 ∷ 8 ∷ 9 ∷ [])) (ltb a k && eqb b 0)
+    (cond (some (eqb kind) (3 ∷ 6 ∷ 7 ∷ [])) (ltb a k && ltb b k) false))
+
+-- the question, of all subformula lines of a text
+abbrev pub kindsAdmitted : Text → Question
+kindsAdmitted x = ofLines 8 (λ k. admitted k (kindField x k) (leftField x k) (rightField x k)) (subformulas x) (2 + states x + edges x)

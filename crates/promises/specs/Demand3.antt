@@ -5,7 +5,7 @@
 -- Assumes nothing.
 use Prim.Native.Nat.{ℕ, _+_, _-_, _<_, _≤_}
 use mathlib.Core.Path.{_≡_}
-use mathlib.Core.List.{List, [], _∷_, _++_, List·Memᴰ}
+use mathlib.Core.List.{List, [], _∷_, _++_, map, List·Memᴰ}
 use lib.ListN.{getD}
 use Rattle.text.specs.Field.{Text}
 use Rattle.job.specs.Job.{decode, size, subformulaCount}
@@ -83,6 +83,9 @@ pub record ListOfCalls (x : Text) : Type 0 where
 
 abbrev pub leftBy : {x : Text} → ListOfCalls x → Table
 leftBy calls = lastTable (calls .start) (calls .events)
+
+abbrev pub toldBy : {x : Text} → ListOfCalls x → List Answer
+toldBy calls = map (λ e. e .told) (calls .events)
 
 -- "each call fills and answers as defined"
 unfoldable pub AsDefined : Table → List Event → Type 0

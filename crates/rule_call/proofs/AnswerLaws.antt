@@ -13,14 +13,12 @@ use Rattle.law.specs.Lists.{from, tab, flatten}
 use Rattle.law.proofs.Bool.{split}
 use Rattle.law.proofs.Lists.{tab-at}
 use Rattle.text.specs.Field.{Text}
-use Rattle.text.specs.Decimal.{line, Short}
+use Rattle.text.specs.Decimal.{line}
 use Rattle.job.specs.Answer.{accepted}
 use Rattle.job.specs.Formula.{fields}
 use Rattle.job.specs.Job.{subformula}
-use Rattle.job.specs.Rule.{InRange}
-use Rattle.job.specs.Written.{Operands}
-use Rattle.job.specs.declared.subformula.Subformula.{Subformula}
-use Rattle.job.specs.declared.subformula.Subformula.the-variants.{Atom, Not, And, Ax, Ex, Au, Eu, Eg, Ag}
+use Rattle.job.specs.declared.subformula.Subformula.the-variants.{Atom}
+use Rattle.job.proofs.Formula.{fields-short}
 use Rattle.rule_text.specs.Tree.{Tree}
 use Rattle.rule_text.specs.Lines.{linesOf, linesText}
 use Rattle.rule_text.specs.Parse.{reading}
@@ -51,19 +49,6 @@ module _ (x : Text) (read : Bool) (m : List ℕ) (is : ReadsRule x read m) where
   pub read-tree : not read ≡ false → (f : Tree) × KeepsTree x f m
   unfolding ReadsRule
   read-tree e = subst (λ b. ReadsRule x b m) (not-false read e) is
-
--- The numbers of a line whose operands are in range have few digits.
-fields-short : (k : ℕ) (f : Subformula) → k ≤ 32 → Operands k f → Short (fields f)
-unfolding Short fields InRange
-fields-short k (Atom j) l o = (omega arith, (omega arith, (omega arith, tt)))
-fields-short k (Not a) l o = (omega arith, (omega arith, (omega arith, tt)))
-fields-short k (And a b) l (o, p) = (omega arith, (omega arith, (omega arith, tt)))
-fields-short k (Ax a) l o = (omega arith, (omega arith, (omega arith, tt)))
-fields-short k (Ex a) l o = (omega arith, (omega arith, (omega arith, tt)))
-fields-short k (Au a b) l (o, p, q) = (omega arith, (omega arith, (omega arith, tt)))
-fields-short k (Eu a b) l (o, p, q) = (omega arith, (omega arith, (omega arith, tt)))
-fields-short k (Eg a) l (o, p, q) = (omega arith, (omega arith, (omega arith, tt)))
-fields-short k (Ag a) l (o, p, q) = (omega arith, (omega arith, (omega arith, tt)))
 
 -- An array of zeros holds no line.
 pub zeros-hold : (m : List ℕ) → length m ≡ 100 → getD m 99 0 ≡ 0 → HoldsLines m × (held m ≡ [])

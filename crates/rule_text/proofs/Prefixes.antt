@@ -10,7 +10,8 @@ use Rattle.rule_text.specs.declared.token.Prefix.{Prefix as PrefixOperat
 use Rattle.rule_text.specs.declared.token.Token.{Token}
 use Rattle.rule_text.specs.declared.token.Token.the-variants.{Prefix}
 use Rattle.rule_text.specs.Tree.{Tree, prefix}
-use Rattle.rule_text.specs.Token.{spelling, isBracket, isToken, letterOrDigit, isWord, startsWithWord, Apart, Spells, nothing, token, leftParenthesis, rightParenthesis}
+use Rattle.rule_text.specs.Token.{spelling, isBracket, isToken, letterOrDigit, isWord, startsWithWord}
+use Rattle.rule_text.specs.Token.{Apart, Spells, nothing, token, leftParenthesis, rightParenthesis}
 use Rattle.rule_text.specs.Grammar.{prefixed, inParentheses, tighter, Means}
 
 -- no space is needed before a closing parenthesis

@@ -27,14 +27,13 @@ use Rattle.cells.proofs.Tells.{by-cell}
 use Rattle.image.specs.Image.{jobOf, placeOf, rank, fragmentSize, fragmentState}
 use Rattle.image.proofs.Ranks.{state-below, state-inside, rank-state, rank-below, state-rank}
 use Rattle.image.proofs.Places.{place-inner}
-use Rattle.table.specs.Lent.{Lent, Ready, IsCell}
+use Rattle.table.specs.Lent.{Ready, IsCell}
 use Rattle.table.specs.Column.{cellsOf}
 use Rattle.spread.specs.Spread.{spreadRule, Joinable, Spread}
 use Rattle.spread.proofs.Turn.{rule-mono}
 use Rattle.sets.specs.declared.sets.Growth.{Growth}
-use Rattle.sets.specs.declared.sets.WantedCell.{WantedCell}
 use Rattle.sets.specs.declared.sets.Marking.{Marking}
-use Rattle.sets.specs.Marks.{ruleBy, mark, counts, wanted, isWanted, markedBy, CellsIn, markBy, markAt, grows, IsSet, Marks}
+use Rattle.sets.specs.Marks.{ruleBy, mark, counts, wanted, markingOf, CellsIn, markBy, markAt, grows, IsSet, Marks}
 
 module _ (J : Job) (job : IsJob J) (n : ℕ) (f : ℕ → ℕ) (d : ℕ) where
   pub marks-start : Marks J n f d 0 (replicate 256 d)
@@ -157,15 +156,15 @@ module _ (also v place own : ℕ) (starts grows : Bool) where
 
 -- the same by the cells as they were read, one after the other
 module _ (J : Job) (t : Table) (n s : ℕ) (by : Marking) where
-  pub marks-by :
+  pub mark-by-cells :
       {x o p b a : ℕ}
       → o ≡ cell J t n s (by .own .subformula)
       → p ≡ placeOf J n s
       → b ≡ cell J t n s (by .start .subformula)
       → a ≡ cell J t n s (by .grow .subformula)
-      → x ≡ mark (by .also) (by .own .value) p o (isWanted (by .also) (by .start) b) (isWanted (by .also) (by .grow) a)
+      → x ≡ mark (by .also) (by .own .value) p o (counts (by .also) (by .start .value) b) (counts (by .also) (by .grow .value) a)
       → x ≡ markBy J t n s by
-  marks-by own place b a e = rw (own, place, b, a) at e
+  mark-by-cells own place b a e = rw (own, place, b, a) at e
 
 -- A condition wants a cell of the rule's own column or of an operand's.
 wanted-in : (k n : ℕ) → k < n → (c : Condition) → AsksSmaller k c → wanted k c .subformula < n
@@ -177,9 +176,9 @@ wanted-in k n l (Fails a) o = omega arith
 module _ (at : ℕ → ℕ → ℕ) (s k also : ℕ) (low : (j : ℕ) → at j s ≤ 2) (high : 2 ≤ also) where
   -- whether a cell is the one that is wanted, or counts besides
   abbrev read : Condition → Bool
-  read c = isWanted also (wanted k c) (at (wanted k c .subformula) s)
+  read c = counts also (wanted k c .value) (at (wanted k c .subformula) s)
 
-  wanted-counts : at k s ≡ 2 → (c : Condition) → read c ≡ counts also (known at c s)
+  wanted-counts : at k s ≡ 2 → (c : Condition) → read c ≡ counts also 1 (known at c s)
   unfolding known opposite isEmpty
   wanted-counts empty Always = rw empty refl
   wanted-counts empty (Holds a) = refl
@@ -191,7 +190,7 @@ module _ (at : ℕ → ℕ → ℕ) (s k also : ℕ) (low : (j : ℕ) → at j s
 
   mark-wanted :
       (v place : ℕ) (b a : Condition)
-      → mark also v place (at k s) (read b) (read a) ≡ mark also v place (at k s) (counts also (known at b s)) (counts also (known at a s))
+      → mark also v place (at k s) (read b) (read a) ≡ mark also v place (at k s) (counts also 1 (known at b s)) (counts also 1 (known at a s))
   unfolding mark isEmpty
   mark-wanted v place b a =
       by-equal (at k s) 2 (λ e. rw (wanted-counts e b, wanted-counts e a)) (λ n. rw (ne-eqb (at k s) 2 n))
@@ -233,7 +232,7 @@ module _ (m : List ℕ) (t : Table) (ready : Ready m t) (n k : ℕ) (g : Growth)
     wanted-cell : (c : Condition) → AsksSmaller k c → IsCell J n s (wanted k c .subformula)
     wanted-cell c o = record { node-in = here .0; state-in = l; subformula-in = wanted-in k (subformulaCount J) (here .1) c o }
 
-    pub cells-in : (by : Marking) → by ≡ markedBy k g also → CellsIn J n s by
+    pub cells-in : (by : Marking) → by ≡ markingOf k g also → CellsIn J n s by
     unfolding InRange
     cells-in by e =
         rw e
@@ -244,7 +243,7 @@ module _ (m : List ℕ) (t : Table) (ready : Ready m t) (n k : ℕ) (g : Growth)
         })
 
   -- a state's mark by the cells that the conditions want
-  pub mark-read : (s : ℕ) {x : ℕ} {by : Marking} → x ≡ markBy J t n s by → by ≡ markedBy k g also → x ≡ markAt J t n k g also s
+  pub mark-read : (s : ℕ) {x : ℕ} {by : Marking} → x ≡ markBy J t n s by → by ≡ markingOf k g also → x ≡ markAt J t n k g also s
   unfolding cell
   mark-read s e is =
       rw is at e
@@ -272,7 +271,7 @@ module _ (m : List ℕ) (t : Table) (ready : Ready m t) (n k : ℕ) (g : Growth)
         joinable J (ready .lent .image .is-job) n (markAt J t n k g also) also marks done apart
         (λ s.
         inner-joins also apart (eqb (cell J t n s k) (g .value)) (isEmpty (cell J t n s k)) (eqb (placeOf J n s) 2)
-        (counts also (known (cellsOf J t n) (g .start) s)) (counts also (known (cellsOf J t n) (g .grow) s)))
+        (counts also 1 (known (cellsOf J t n) (g .start) s)) (counts also 1 (known (cellsOf J t n) (g .grow) s)))
 
     pub marks-set : (after : List ℕ) → Spread (J .structure) (quantifier (g .all)) marks after → IsSet J t n k g also after
     unfolding size grows spreadRule

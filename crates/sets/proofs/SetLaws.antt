@@ -137,11 +137,11 @@ module _ (m : List ℕ) (t : Table) (ready : Ready m t) (n k : ℕ) (g : Growth)
   abbrev starts : ℕ → ℕ
   starts = known (cellsOf J t n) (g .start)
 
-  abbrev lets : ℕ → ℕ
-  lets = known (cellsOf J t n) (g .grow)
+  abbrev mayGrow : ℕ → ℕ
+  mayGrow = known (cellsOf J t n) (g .grow)
 
   abbrev R : SetRule
-  R = setRule (quantifier (g .all)) starts lets (g .value)
+  R = setRule (quantifier (g .all)) starts mayGrow (g .value)
 
   abbrev L : List Bool
   L = smallest J n own R
@@ -173,9 +173,9 @@ module _ (m : List ℕ) (t : Table) (ready : Ready m t) (n k : ℕ) (g : Growth)
   joins-same X s l =
       let b = known-low s (g .start) in
       let w = known-low s (g .grow) in
-      rw (place-inner J n s, ne-eqb (starts s) 3 (λ e. omega arith), ne-eqb (lets s) 3 (λ e. omega arith))
+      rw (place-inner J n s, ne-eqb (starts s) 3 (λ e. omega arith), ne-eqb (mayGrow s) 3 (λ e. omega arith))
       (joins-by (eqb (cell J t n s k) (g .value)) (isEmpty (cell J t n s k)) (inner J n s) (eqb (starts s) 1)
-      (eqb (lets s) 1) (over-by X s))
+      (eqb (mayGrow s) 1) (over-by X s))
 
   smallest-grows : L ≡ least (grows J t n k g 3) (size J)
   unfolding smallest
@@ -187,7 +187,7 @@ module _ (m : List ℕ) (t : Table) (ready : Ready m t) (n k : ℕ) (g : Growth)
   joins-out X s =
       rw (place-inner J n s)
       (joins-more (eqb (cell J t n s k) (g .value)) (isEmpty (cell J t n s k)) (inner J n s) (eqb (starts s) 1)
-      (eqb (starts s) 2) (eqb (lets s) 1) (eqb (lets s) 2) (over-by X s))
+      (eqb (starts s) 2) (eqb (mayGrow s) 1) (eqb (mayGrow s) 2) (over-by X s))
 
   smallest-out : (s : ℕ) → member L s ≡ true → member (least (grows J t n k g 2) (size J)) s ≡ true
   unfolding smallest
@@ -219,7 +219,7 @@ module _ (m : List ℕ) (t : Table) (ready : Ready m t) (n k : ℕ) (g : Growth)
         others-over X s,
         place-inner J n s,
         may-be (starts s) (known-low s (g .start)),
-        may-be (lets s) (known-low s (g .grow)),
+        may-be (mayGrow s) (known-low s (g .grow)),
       )
       (cell-cases _ (cell J t n s k) (g .value) (cell-low s k) value-low
       (λ a e o. rw (a, e, o) refl)
@@ -227,7 +227,7 @@ module _ (m : List ℕ) (t : Table) (ready : Ready m t) (n k : ℕ) (g : Growth)
       (λ a e o.
       rw (a, e, o)
       (leaves-by (member L s) (inner J n s) (eqb (starts s) 1 || eqb (starts s) 2)
-      (eqb (lets s) 1 || eqb (lets s) 2) (over-by X s))))
+      (eqb (mayGrow s) 1 || eqb (mayGrow s) 2) (over-by X s))))
 
   largest-is : (s : ℕ) → s < size J → member (largest J n own R L) s ≡ not (member (least (grows J t n k g 2) (size J)) s)
   unfolding largest others

@@ -35,10 +35,10 @@ unfoldable pub mark : ℕ → ℕ → ℕ → ℕ → Bool → Bool → ℕ
 mark also v place own starts grows =
     cond (eqb own v) 2 (cond (isEmpty own) (cond (eqb place 2) (cond starts 2 (cond grows 1 0)) also) 0)
 
--- What is `also` counts as met beside what is 1: with 3 nothing does, which gives the smallest set; with 2 what is not known yet, which
+-- Where v is wanted, what is `also` counts beside it: with 3 nothing does, which gives the smallest set; with 2 what is not known yet, which
 -- gives what the largest leaves out.
-abbrev pub counts : ℕ → ℕ → Bool
-counts also x = eqb x 1 || eqb x also
+abbrev pub counts : ℕ → ℕ → ℕ → Bool
+counts also v x = eqb x v || eqb x also
 
 -- The cell that a condition of subformula k reads where the cell of k is empty, and its value where the condition is met.
 abbrev pub wanted : ℕ → Condition → WantedCell
@@ -46,12 +46,9 @@ wanted k Always = record { subformula = k; value = 2 }
 wanted k (Holds a) = record { subformula = a; value = 1 }
 wanted k (Fails a) = record { subformula = a; value = 0 }
 
-abbrev pub isWanted : ℕ → WantedCell → ℕ → Bool
-isWanted also w c = eqb c (w .value) || eqb c also
-
 -- What the states of column k are marked by, for a set that grows so.
-abbrev pub markedBy : ℕ → Growth → ℕ → Marking
-markedBy k g also =
+abbrev pub markingOf : ℕ → Growth → ℕ → Marking
+markingOf k g also =
     record { own = record { subformula = k; value = g .value }; start = wanted k (g .start); grow = wanted k (g .grow); also = also }
 
 -- The cells that are read for a state's mark are cells of the table,
@@ -64,15 +61,15 @@ pub record CellsIn (J : Job) (n s : ℕ) (by : Marking) : Type 0 where
 abbrev pub markBy : Job → Table → ℕ → ℕ → Marking → ℕ
 markBy J t n s by =
     mark (by .also) (by .own .value) (placeOf J n s) (cell J t n s (by .own .subformula))
-    (isWanted (by .also) (by .start) (cell J t n s (by .start .subformula)))
-    (isWanted (by .also) (by .grow) (cell J t n s (by .grow .subformula)))
+    (counts (by .also) (by .start .value) (cell J t n s (by .start .subformula)))
+    (counts (by .also) (by .grow .value) (cell J t n s (by .grow .subformula)))
 
 -- The column of node n and subformula k, over the cells of the table t: the marks by state, and how a set grows by them.
 module _ (J : Job) (t : Table) (n k : ℕ) (g : Growth) (also : ℕ) where
   abbrev pub markAt : ℕ → ℕ
   markAt s =
-      mark also (g .value) (placeOf J n s) (cell J t n s k) (counts also (known (cellsOf J t n) (g .start) s))
-      (counts also (known (cellsOf J t n) (g .grow) s))
+      mark also (g .value) (placeOf J n s) (cell J t n s k) (counts also 1 (known (cellsOf J t n) (g .start) s))
+      (counts also 1 (known (cellsOf J t n) (g .grow) s))
 
   unfoldable pub grows : fixpoint.Rule
   grows X s = eqb (markAt s) 2 || (eqb (markAt s) 1 && over (J .structure) (quantifier (g .all)) s X)

@@ -8,7 +8,7 @@ ghost use Rattle.image.specs.Image.{jobOf};
 ghost use Rattle.table.specs.Lent.{Lent, Ready};
 ghost use Rattle.table.specs.Filling.{Leaves, part, ofColumn};
 ghost use Rattle.table.specs.Column.{stepBy};
-ghost use Rattle.sets.specs.Marks.{ruleBy, wanted as wantedOf, markedBy, CellsIn, markBy, IsSet, hasEmpty, setValue, setValues};
+ghost use Rattle.sets.specs.Marks.{ruleBy, wanted as wantedOf, markingOf, CellsIn, markBy, IsSet, hasEmpty, setValue, setValues};
 use image::image::Image;
 use image::image::fragment_size;
 use image::image::fragment_state;
@@ -27,7 +27,7 @@ pub struct Growth {
     pub value: u8,
 }
 
-// A condition as one cell to read: at a state whose cell of subformula k is empty it is met where its cell of `subformula` is `value`.
+// A condition as one cell to read: it is met where the cell of `subformula` is `value`.
 struct WantedCell {
     subformula: usize,
     value: u8,
@@ -42,7 +42,7 @@ struct Marking {
     also: u8,
 }
 
-// What is always met is that the empty cell is empty.
+// For what is always met that is the state's own cell, which is empty where a mark asks.
 fn wanted(k: usize, c: Condition) -> WantedCell
     ensures { λ r. ⌜ r ≡ wantedOf k c ⌝ }
 {
@@ -63,8 +63,8 @@ fn wanted(k: usize, c: Condition) -> WantedCell
 }
 
 // What the states of column k are marked by, for a set that grows so.
-fn marked_by(k: usize, g: Growth, also: u8) -> Marking
-    ensures { λ r. ⌜ r ≡ markedBy k g also ⌝ }
+fn marking_of(k: usize, g: Growth, also: u8) -> Marking
+    ensures { λ r. ⌜ r ≡ markingOf k g also ⌝ }
 {
     let start = g.start;
     let grow = g.grow;
@@ -113,7 +113,7 @@ fn set_of(m: &Image, table: &[u8], n: usize, k: usize, g: Growth, also: u8) -> [
     requires { ⌜ (n < jobOf (now m) .nodes) × (k < subformulaCount (jobOf (now m))) × InRange k (ruleBy g) × (2 ≤ also) ⌝ }
     ensures { λ r. ⌜ IsSet (jobOf (now (m .entry))) (now (table .entry)) n k g also r ⌝ }
 {
-    let by = marked_by(k, g, also);
+    let by = marking_of(k, g, also);
     let mut marks = [also; 256];
     for i in 0..fragment_size(m, n) {
         let s = fragment_state(m, n, i);

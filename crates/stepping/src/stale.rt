@@ -2,8 +2,8 @@
 ghost use mathlib.Core.Path.{_≡_};
 ghost use Prim.Native.Nat.{_<_};
 ghost use lib.ListN.{length};
-ghost use Rattle.job.specs.Job.{subformulaCount};
 ghost use Rattle.law.specs.Lists.{some};
+ghost use Rattle.job.specs.Job.{subformulaCount};
 ghost use Rattle.job.specs.Rule.{asks, AsksSmaller, InRange};
 ghost use Rattle.cells.specs.Rest.{columnByte, isStale, bears as bearsOn, Rested, BytesAre};
 ghost use Rattle.image.specs.Image.{jobOf};

@@ -35,4 +35,5 @@ returns-9 c = sym (ap ruleOf (c .before .f9 .given .1))
 pub rule-of-spec : {M : Type 1} → statement M
 rule-of-spec =
     let first = tie.spec (λ c. search needs) (λ c. search needs) (λ c. search needs) (λ c. search needs) (λ c. search needs) (λ c. search needs) in
-    tie.close (first (λ c. search needs) (λ c. search needs) (λ c. search needs) returns returns-2 returns-3 returns-4 returns-5 returns-6 returns-7 returns-8 returns-9)
+    let second = first (λ c. search needs) (λ c. search needs) (λ c. search needs) returns returns-2 returns-3 in
+    tie.close (second returns-4 returns-5 returns-6 returns-7 returns-8 returns-9)

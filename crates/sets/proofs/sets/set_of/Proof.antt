@@ -16,7 +16,7 @@ abbrev μ-loop : tie.MeasureT-loop
 μ-loop m table n k g also by marks₀ i₀ i-end marks i = i-end - i
 
 -- the start, from where it is known what states are marked by
-abbrev entered : tie.After-marked-by Inv-loop μ-loop → tie.Start Inv-loop μ-loop
+abbrev entered : tie.After-marking-of Inv-loop μ-loop → tie.Start Inv-loop μ-loop
 entered c = c .before .before
 
 fragment-size-requires : tie.Need-fragment-size-requires Inv-loop μ-loop
@@ -32,7 +32,7 @@ fragment-state-requires c κs =
     (s .pre .0 .lent .image, (s .pre .1 .0, below))
 
 -- a turn of the loop
-abbrev by-of : tie.After-fragment-state Inv-loop μ-loop → tie.After-marked-by Inv-loop μ-loop
+abbrev by-of : tie.After-fragment-state Inv-loop μ-loop → tie.After-marking-of Inv-loop μ-loop
 by-of p = p .before .before .before .before
 
 abbrev start-of : tie.After-fragment-state Inv-loop μ-loop → tie.Start Inv-loop μ-loop
@@ -47,7 +47,7 @@ mark-requires : tie.Need-mark-requires Inv-loop μ-loop
 mark-requires c κs =
     let s = start-of c in (
       s .pre .0 .lent,
-      cells-in _ _ (s .pre .0) _ _ (s .args .g) (s .args .also) (s .pre .1) _ (c .fragment-state .ensures .1) _ (by-of c .marked-by .ensures),
+      cells-in _ _ (s .pre .0) _ _ (s .args .g) (s .args .also) (s .pre .1) _ (c .fragment-state .ensures .1) _ (by-of c .marking-of .ensures),
     )
 
 array-write-marks : tie.Need-array-write-marks Inv-loop μ-loop
@@ -59,7 +59,7 @@ loop-again c =
     let l = p .before .before .loop in
     let s = start-of p in
     let read = mark-read _ _ (s .pre .0) _ _ (s .args .g) (s .args .also) (s .pre .1) (p .fragment-state .result) (c .mark .ensures)
-    (by-of p .marked-by .ensures) in (
+    (by-of p .marking-of .ensures) in (
       omega arith,
       marks-more _ (s .pre .0 .lent .image .is-job) _ _ (s .args .also) (l .i) (below p) (p .fragment-state .result) (p .fragment-state .ensures .0)
           (c .mark .result) read (l .marks) (l .inv .1),
