@@ -38,8 +38,11 @@ static void accepted(const char *call)
     if (line != 0) {
         printf(", line %zu", line);
         selahmur_line(text, length, line, answer, room);
-        if (answer[1] != 0)
-            printf(": '%.*s'", (int)answer[1], (const char *)text + answer[0]);
+        if (answer[1] != 0) {
+            printf(": '");
+            fwrite(text + answer[0], 1, answer[1], stdout); /* any bytes, 0 too */
+            printf("'");
+        }
     }
     printf("\n");
     exit(2);

@@ -16,13 +16,14 @@ the step that they would have spared.  Others start from any table.  In all of
 them come damaged texts, other jobs' texts, tables of a wrong length or with
 wrong bytes, and numbers out of range, and rule texts, in the grammar and not.
 Each of COUNT draws is some lists of small jobs and some rules; the jobs at the
-limits and every rule text of up to four tokens come besides.
+limits, every rule text of up to four tokens and the cases on which compare.py
+has the definitions computed come besides.
 
 It counts too, and fails where a call is never accepted, where a number that a
-call can refuse with never comes, or where no message or no close is ever about a
-kind that it can be about.  The worked examples are compiled with the
-header: examples/service.c has to print what the model says of the same calls,
-and examples/rule.c the CTL truth of a rule that is typed.
+call can refuse with never comes, or where no message or no close is ever about
+a kind that it can be about.  The worked examples are compiled with the header:
+examples/service.c has to print what the model says of the same calls, and
+examples/rule.c the CTL truth of a rule that is typed.
 """
 
 from __future__ import annotations
@@ -53,6 +54,7 @@ import generate
 import rule_texts
 import rules
 import tables
+import trials
 from checker import EMPTY
 
 ROOT = pathlib.Path(__file__).parents[1]
@@ -412,6 +414,13 @@ def kept(shared: mmap.mmap) -> tuple[int, Case | None]:
 # --------------------------------------------------------------------------
 
 
+def fitted(name: str, numbers: tuple[int, ...]) -> tuple[int, ...]:
+    """The numbers of a call, where the value of a message is a byte."""
+    if name == "accept":
+        return *numbers[:-1], min(numbers[-1], 255)
+    return numbers
+
+
 class Play:
     """A job, and a table on which a list of calls goes on."""
 
@@ -448,9 +457,7 @@ class Play:
 
     def numbers(self, name: str) -> tuple[int, ...]:
         """Numbers for a call on a table, sometimes far out of range."""
-        found = list(tables.any_numbers(self.rng, self.job, name))
-        if name == "accept" and found[-1] > 255:
-            found[-1] = self.rng.choice([2, 3, 254, 255])
+        found = list(fitted(name, tables.any_numbers(self.rng, self.job, name)))
         places = len(found) - (name == "accept")
         if places and self.rng.randrange(12) == 0:
             at = self.rng.randrange(places)
@@ -722,6 +729,22 @@ def large_lists(comparison: Comparison) -> None:
     Play(comparison, generate.tangled(rng, 256, 8, 8)).honest(3, 12)
 
 
+def computed_cases(comparison: Comparison) -> None:
+    """The cases on which the definitions are computed, with room for each answer."""
+
+    def call(name: str, table: bytes, numbers: tuple[int, ...]) -> bytes:
+        room = comparison.widths[name]
+        case = Case(name, trial.text, table, fitted(name, numbers), room)
+        return comparison.compare(case)[1]
+
+    for trial in trials.trials(trials.SEED, trials.COUNT):
+        table = call("read", trial.table, ())
+        for at in trial.lines:
+            call("line", table, (at,))
+        for name, numbers in trial.calls:
+            table = call(name, table, numbers)
+
+
 def small_lists(comparison: Comparison, i: int) -> None:
     """The i-th draw of small jobs."""
     rng = comparison.rng
@@ -746,6 +769,7 @@ def small_lists(comparison: Comparison, i: int) -> None:
 def lists(comparison: Comparison, count: int) -> None:
     """All lists: small jobs and rules, and now and then the large ones."""
     told_rules(comparison)
+    computed_cases(comparison)
     for i in range(count):
         if i % 100 == 0:
             large_lists(comparison)

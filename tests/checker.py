@@ -319,8 +319,10 @@ def rule_of_sets(
             and own[s] != other
             and (
                 start[s] == TRUE
-                or grow[s] == TRUE
-                and quantifier(t in smallest for t in job.successors[s])
+                or (
+                    grow[s] == TRUE
+                    and quantifier(t in smallest for t in job.successors[s])
+                )
             )
         }
         if not more:

@@ -383,7 +383,7 @@ def main() -> int:
     options.add_argument("--seed", type=int, default=trials.SEED)
     options.add_argument("--count", type=int, default=trials.COUNT)
     options.add_argument("--texts", type=int, default=0)
-    options.add_argument("--batch", type=int, default=160)
+    options.add_argument("--batch", type=int, default=200)
     options.add_argument("--plant", action="store_true", help="make two cases wrong")
     chosen = options.parse_args()
     jobs = trials.trials(chosen.seed, chosen.count)

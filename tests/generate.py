@@ -345,8 +345,9 @@ def cut_ring(kind: int, size: int, formulas: int, negated: bool) -> Picture:
 
 
 def dear() -> Iterator[tuple[str, Picture, Line]]:
-    """Jobs of up to the full size with verdict, rounds and cells, as two other
-    models gave them."""
+    """Jobs of up to the full size with verdict, rounds and cells.  Two other models
+    gave them, but for chains of EG and AG and for negated rings of other kinds than
+    A(a U b): these count like the others, and EG and AG have the other verdict."""
     for size, formulas, nodes, rounds, cells in (
         (16, 32, 2, 381, 1024),
         (64, 32, 2, 1773, 4096),
@@ -368,7 +369,7 @@ def dear() -> Iterator[tuple[str, Picture, Line]]:
         name = f"heavy {hanging} {nodes}"
         yield name, heavy(256, hanging, 32, nodes), (1, rounds, cells)
     for kind in SETS:
-        until = kind in UNTILS
+        until = int(kind in UNTILS)
         yield f"chain {kind}", cut_chain(kind, 256, 32), (until, 257, 16352)
-        yield f"ring {kind}", cut_ring(kind, 256, 32, False), (not until, 32, 16384)
+        yield f"ring {kind}", cut_ring(kind, 256, 32, False), (1 - until, 32, 16384)
         yield f"ring {kind}, negated", cut_ring(kind, 256, 32, True), (until, 25, 16384)

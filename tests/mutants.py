@@ -2,11 +2,12 @@
 
     mutants.py [--seed N] [--count N]
 
-Each mutant is a model, that of checker.py or that of rules.py, with one place
-read otherwise.  For each the cases are answered again and those that change are
-counted; a mutant that changes none is a gap in the cases.  Without options the
-cases are the gate's.  A mutant of truth on the uncut structure changes no answer:
-it has to differ from what finish fills on jobs that are drawn besides.
+Each mutant is a model, that of checker.py or that of rules.py, that reads one
+thing otherwise, in one place of the source or in a few.  For each the cases are
+answered again and those that change are counted; a mutant that changes none is a
+gap in the cases.  Without options the cases are the gate's.  A mutant of truth on
+the uncut structure changes no answer: it has to differ from what finish fills on
+jobs that are drawn besides.
 """
 
 from __future__ import annotations
@@ -52,6 +53,12 @@ SET_MUTANTS: list[tuple[str, ...]] = [
     ("operands read at border states",
      "smallest = {s for s in job.fragment[node] if own[s] == value}",
      "smallest = {s for s in job.fragment[node] if own[s] == value or (start[s] == TRUE and own[s] != other)}"),
+    ("the smallest set as if border states had no successors",
+     "            for s in owned\n            if s not in smallest\n", "            for s in job.fragment[node]\n            if s not in smallest\n",
+     "quantifier(t in smallest for t in job.successors[s])", "quantifier(t in smallest for t in job.successors[s] if s in owned)"),
+    ("the largest set as if border states had no successors",
+     "already.union(s for s in owned if", "already.union(s for s in job.fragment[node] if",
+     "dual(t in largest for t in job.successors[s])", "dual(t in largest for t in job.successors[s] if s in owned)"),
     ("the largest set grown from nothing",
      "    return smallest, largest\n",
      "    grown = set(already)\n"
@@ -72,11 +79,12 @@ largest too would have a successor that joined before it and is in both."""
 MUTANTS: list[tuple[str, ...]] = [
     ("A and E untils exchanged", "all if kind == AU", "all if kind == EU"),
     ("EG and AG exchanged", "all if kind == EG", "all if kind == AG"),
+    ("untils: truth grows where a is empty", "grow[s] == TRUE", "grow[s] != FALSE"),
     ("EG, AG: falsity grows only where a is true", "[TRUE] * len(a)", "a"),
     ("EG, AG: the opposite of an empty a is true",
      "a_false = [rule_of_not(cell) for cell in a]", "a_false = [TRUE if cell == EMPTY else rule_of_not(cell) for cell in a]"),
     ("AX and EX exchanged", "(all, any) if kind == AX", "(all, any) if kind == EX"),
-    ("not of empty is true", "EMPTY: EMPTY}[a]", "EMPTY: TRUE}[a]"),
+    ("not of empty is true", "value[s] = rule_of_not(cells[s])", "value[s] = TRUE if cells[s] == EMPTY else rule_of_not(cells[s])"),
     ("false and empty stays empty", "if a == FALSE or b == FALSE:", "if a == FALSE and b == FALSE:"),
     ("atoms only at owned states",
      "        for s in job.fragment[node]:\n            value[s] = job.label[s] >> a & 1",
@@ -95,7 +103,9 @@ MUTANTS: list[tuple[str, ...]] = [
      "    if value == EMPTY or table[cell] == value:\n        return 0\n    table[cell] = value\n    return 1"),
     ("subformulas downward",
      "for k in range(job.sizes.formulas))\n\n\n# ---", "for k in reversed(range(job.sizes.formulas)))\n\n\n# ---"),
-    ("settled: copies not asked", "return not copies(job, table, job.temporal()) and all(", "return all("),
+    *((f"settled: copies of {name} not asked", "return not copies(job, table, job.temporal()) and all(",
+       f"return not copies(job, table, [k for k in job.temporal() if job.rules[k].kind not in {kinds}]) and all(")
+      for name, kinds in (("AX, EX", "(AX, EX)"), ("untils", "UNTILS"), ("EG", "(EG,)"), ("AG", "(AG,)"))),
     ("settled: steps not asked", "step_node(job, bytearray(table), node) == 0 for node", "True for node"),
     ("close: k searched in fragments of node 0 only",
      "            if table[owners_cell(job, s, k)] == EMPTY:", "            if table[job.cell(0, s, k)] == EMPTY:"),
@@ -165,8 +175,6 @@ MUTANTS: list[tuple[str, ...]] = [
     ("offer: EG and AG not temporal", "TEMPORAL, 13)\n    value", "TEMPORAL[:4], 13)\n    value"),
     ("accept: EG and AG not temporal", "TEMPORAL, 13)\n    ask(value", "TEMPORAL[:4], 13)\n    ask(value"),
     ("EG and AG not copied", "if rule.kind in TEMPORAL]", "if rule.kind in TEMPORAL[:4]]"),
-    ("settled: copies of EG and AG not asked", "return not copies(job, table, job.temporal()) and all(",
-     "return not copies(job, table, [k for k in job.temporal() if job.rules[k].kind not in ALL_ALONG]) and all("),
     ("fields with leading zeros", 'rb" *(0|[1-9][0-9]*)"', 'rb" *[0-9]+"'),
     ("a field of spaces", 'rb" *(0|[1-9][0-9]*)"', 'rb" *(|0|[1-9][0-9]*)"'),
     ("byte 10 not asked", "or part[-1] != 10", ""),
@@ -180,6 +188,8 @@ MUTANTS: list[tuple[str, ...]] = [
     ("8 asks no b = 0", "else b == 0)", "else True)"),
     ("8: atom 16", "a <= 15 if", "a <= 16 if"),
     ("8: a = k", "else a < k)", "else a <= k)"),
+    ("8: kind 8 with a = k", "else a < k)", "else a < k + (kind == EG))"),
+    ("8: kind 9 with a = k", "else a < k)", "else a < k + (kind == AG))"),
     ("8: b = k", "(b < k if", "(b <= k if"),
     ("8: kind 0", "kind in KINDS", "kind in range(0, 10)"),
     ("8: kind 10", "kind in KINDS", "kind in range(1, 11)"),
@@ -338,6 +348,10 @@ RULE_MUTANTS: list[tuple[str, ...]] = [
     ("equal atoms alone left out",
      "        return found.setdefault(line, len(found))\n\n    number(rewritten(tree))\n    return list(found)",
      "        if line in written and line[0] == ATOM:\n            return written.index(line)\n        written.append(line)\n        return len(written) - 1\n\n"
+     "    written = []\n    number(rewritten(tree))\n    return written"),
+    ("equal EG and AG written again",
+     "        return found.setdefault(line, len(found))\n\n    number(rewritten(tree))\n    return list(found)",
+     "        if line in written and line[0] not in (EG, AG):\n            return written.index(line)\n        written.append(line)\n        return len(written) - 1\n\n"
      "    written = []\n    number(rewritten(tree))\n    return written"),
     ("equal to the line before alone left out",
      "        return found.setdefault(line, len(found))\n\n    number(rewritten(tree))\n    return list(found)",

@@ -427,7 +427,8 @@ SHOWING = [
     b"E[A[p0 U p1]U p1]", b"!E[p0=>p0 U!p0]",
     # Equal lines.
     b"!p0&!p0", b"p0&p1|p0&p1", b"(p0&p1)&(p1&p0)", b"p1&AX p0&(p1&AX p0)",
-    b"!p0|p0", b"(p0|p1)|!p0", b"p0&p1|p0&p2", b"AX p0|EX p0",
+    b"!p0|p0", b"(p0|p1)|!p0", b"p0&p1|p0&p2", b"AX p0|EX p0", b"EG p0&EG p0",
+    b"AG p1|AG p1", b"EG p0|AG p0",
     # Not in the grammar.
     b"", b"  ", b"!", b"p0&", b"|p0", b"p0 p1", b"p0&&p1", b"p0!", b"()", b"(p0",
     b"p0)", b"(p0]", b"[p0]", b"(p0 U p1)", b"p0 U p1", b"A(p0 U p1)", b"A[p0 U p1",

@@ -74,9 +74,9 @@ def check_ruled_out() -> None:
     """The restriction on the sets, one node, x -> x and y -> x.  A(a U b): x filled
     true with a, b false there; y with b false and a empty stays empty.  EG a: x
     filled true with a false there; y with a empty stays empty, and with a true
-    becomes true.  Where y could join both sets it joins the smallest: for EG a, x
-    filled false and a true at both; for A(a U b), x filled true, a true and b false
-    at both."""
+    becomes true.  Where y could join both sets it joins the smallest: for EG a and
+    AG a, x filled false and a true at both; for A(a U b), x filled true, a true and
+    b false at both."""
     text = Picture(1, [0, 0], [0, 0], [(0, 0), (1, 0)], [(ATOM, 0, 0)]).text()
     job = checker.parse(text)
     for kind, own, a, b, sets in (

@@ -85,8 +85,8 @@ def torn_table(rng: random.Random, job: Job) -> bytes:
     own subformula, and some cells could join both."""
     table = bytearray(fresh_table(job))
     for cell in inside(job):
-        s, k = divmod(cell, job.sizes.formulas)
-        table[cell] = checker.truth(job, k, s % job.sizes.states)
+        row, k = divmod(cell, job.sizes.formulas)
+        table[cell] = checker.truth(job, k, row % job.sizes.states)
         if job.rules[k].kind in checker.SETS:
             table[cell] = rng.choice([0, 1, EMPTY, EMPTY])
     return bytes(table)
@@ -160,7 +160,8 @@ KINDS_TOLD = {
     "accept": checker.TEMPORAL,
     "close": checker.SETS,
 }
-"""The calls that are about one subformula, and the kinds that it can have."""
+"""The calls that are about one temporal subformula, and the kinds that it can
+have."""
 
 
 def kind_told(

@@ -1,9 +1,11 @@
-"""The cases of compare.py: drawn at random, and chosen for what they show.
+"""The cases of compare.py, which calls.py makes too: drawn at random, and chosen
+for what they show.
 
 A case shows the answers that it gives (each call accepted, and refused under
-each of its numbers) and the mutants of `mutants.py` that would answer it
-otherwise.  `trials` draws many cases, takes from them cheap ones that together
-show everything, twice where the count allows, and draws the rest to the count.
+each of its numbers; messages and closes about each kind that they can be about)
+and the mutants of `mutants.py` that would answer it otherwise.  `trials` draws
+many cases, takes from them cheap ones that together show everything, twice where
+the count allows, and draws the rest to the count.
 """
 
 from __future__ import annotations
@@ -282,24 +284,22 @@ def sets_trial(rng: random.Random) -> Trial:
     Those are a and b: the step may not fill them, and the sets are taken over
     every mixture of empty, false and true cells.
     """
-    states = rng.randint(3, STATES)
-    edges = {(s, states - 1) for s in range(states)}
+    last = STATES - 1
+    edges = {(s, last) for s in range(STATES)}
     for _ in range(rng.randint(1, 5)):
-        edges.add((rng.randrange(states - 1), rng.randrange(states - 1)))
+        edges.add((rng.randrange(last), rng.randrange(last)))
+    if rng.randrange(2):
+        edges.add((0, 0))
     rules = [(1, 0, 0), (4, 0, 0), (5, 1, 0), (5, 1, 0)]
-    kind = rng.choice(checker.SETS)
-    a, b = rng.choice([(2, 3), (2, 3), (3, 2), (2, 2)])
+    kind = rng.choice([*checker.UNTILS, *checker.SETS])
+    a, b = rng.choice([(2, 3), (3, 2)])
     rules.append((kind, a, b if kind in checker.WITH_B else 0))
-    owner = [0] * (states - 1) + [1]
-    text = generate.Picture(2, owner, [0] * states, sorted(edges), rules).text()
+    owner = [0] * last + [1]
+    text = generate.Picture(2, owner, [0] * STATES, sorted(edges), rules).text()
     job = checker.parse(text)
     table = bytearray(tables.fresh_table(job))
-    likely = {
-        2: rng.choice([[0, 1, 2], [1, 1, 2], [0, 2, 2], [1, 2]]),
-        3: rng.choice([[0, 1, 2], [0, 0, 0, 1, 2], [0, 0, 2]]),
-        4: rng.choice([[0, 1, 2, 2], [0, 2], [1, 2, 2], [0, 0, 2]]),
-    }
-    for s in range(states):
+    likely = {a: [0, 1, 1, 2], b: [0, 0, 0, 1, 2], 4: [0, 1, 2, 2]}
+    for s in range(STATES):
         for k in likely:
             table[job.cell(0, s, k)] = rng.choice(likely[k])
     return Trial(text, bytes(table), [("step", (0,))], [], "sets over any cells")
@@ -446,7 +446,7 @@ class Pool:
 TWICE = 2
 """How many cases should show each thing."""
 
-ENOUGH, DRAWN, MOST_DRAWN = 4, 400, 20_000
+ENOUGH, DRAWN, MOST_DRAWN = 4, 500, 20_000
 """How much is drawn to choose from."""
 
 
