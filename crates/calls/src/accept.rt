@@ -3,9 +3,9 @@ ghost use mathlib.Core.Path.{_≡_};
 ghost use Rattle.cells.specs.Calls.{Call, answer, after};
 ghost use Rattle.calls.specs.Told.{acceptTold};
 use crate::offer::Message;
+use asking::Asking;
+use asking::ask;
 use job::reading::Refusal;
-use questions::ask::Asking;
-use questions::ask::ask;
 use table::cell::put;
 
 // With how many cells are filled, 0 or 1.

@@ -2,11 +2,11 @@
 ghost use mathlib.Core.Path.{_≡_};
 ghost use Rattle.cells.specs.Calls.{Call, answer, after};
 ghost use Rattle.calls.specs.Told.{closeTold};
+use asking::Asking;
+use asking::ask;
 use closing::Closing;
 use closing::close_smallest;
 use job::reading::Refusal;
-use questions::ask::Asking;
-use questions::ask::ask;
 
 pub enum Closed {
     Accepted(Closing),

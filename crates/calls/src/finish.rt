@@ -5,9 +5,9 @@ ghost use Rattle.job.specs.Job.{decode as jobIn};
 ghost use Rattle.cells.specs.Table.{emptyCells};
 ghost use Rattle.cells.specs.Calls.{Call, answer, after};
 ghost use Rattle.calls.specs.Told.{finishTold, finishRounds};
+use asking::Asking;
+use asking::ask;
 use job::reading::Refusal;
-use questions::ask::Asking;
-use questions::ask::ask;
 use rounds::finish::Outcome;
 use rounds::finish::finish_table;
 

@@ -2,9 +2,9 @@
 ghost use mathlib.Core.Path.{_≡_};
 ghost use Rattle.cells.specs.Calls.{Call, answer, after};
 ghost use Rattle.calls.specs.Told.{offerTold};
+use asking::Asking;
+use asking::ask;
 use job::reading::Refusal;
-use questions::ask::Asking;
-use questions::ask::ask;
 use table::cell::owner_cell;
 
 // What a node tells of a state that it owns.

@@ -2,9 +2,9 @@
 ghost use mathlib.Core.Path.{_≡_};
 ghost use Rattle.cells.specs.Calls.{Call, answer, after};
 ghost use Rattle.calls.specs.Told.{stepTold};
+use asking::Asking;
+use asking::ask;
 use job::reading::Refusal;
-use questions::ask::Asking;
-use questions::ask::ask;
 use stepping::node::step_node;
 
 // With how many cells are filled.

@@ -1,3 +1,2 @@
 pub mod NoLaws
 pub mod FineLaws
-mod AskedLaws

@@ -1,5 +1,5 @@
-// The questions of the calls on a table. `ask` puts all those of a call, 1 to 8 and then its own, and gives the first refusal. Here is for
-// each call one function that puts its own and gives the number of the first no, 0 where there is none. Fresh puts its one itself.
+// The own questions of the calls on a table, behind 1 to 8: for each call one function that puts them and gives the number of the first no,
+// 0 where there is none. Fresh puts its one itself.
 ghost use Prim.Native.Nat.{_<_};
 ghost use mathlib.Core.Path.{_≡_};
 ghost use mathlib.Core.Bool.{_&&_, _||_};
@@ -26,10 +26,8 @@ use right_cells::cells_right;
 use table::cell::cell;
 use table::cell::owner_cell;
 
-pub mod ask;
-
 // Finish, and before their other questions all calls but fresh: 9 and 10.
-pub(crate) fn table_no(m: &Image, table: &[u8]) -> u8
+pub fn table_no(m: &Image, table: &[u8]) -> u8
     requires { ⌜ IsImage (now m) ⌝ }
     ensures { λ r. ⌜ r ≡ noNumber (ownQuestions Call.finish (jobOf (now (m .entry))) (now (table .entry))) ⌝ }
 {
@@ -42,7 +40,7 @@ pub(crate) fn table_no(m: &Image, table: &[u8]) -> u8
     0
 }
 
-pub(crate) fn step_no(m: &Image, table: &[u8], node: usize) -> u8
+pub fn step_no(m: &Image, table: &[u8], node: usize) -> u8
     requires { ⌜ IsImage (now m) ⌝ }
     ensures { λ r. ⌜ r ≡ noNumber (ownQuestions (Call.step node) (jobOf (now (m .entry))) (now (table .entry))) ⌝ }
 {
@@ -81,7 +79,7 @@ fn named_no(m: &Image, s: usize, k: usize) -> u8
     0
 }
 
-pub(crate) fn offer_no(m: &Image, table: &[u8], s: usize, k: usize) -> u8
+pub fn offer_no(m: &Image, table: &[u8], s: usize, k: usize) -> u8
     requires { ⌜ IsImage (now m) ⌝ }
     ensures { λ r. ⌜ r ≡ noNumber (ownQuestions (Call.offer s k) (jobOf (now (m .entry))) (now (table .entry))) ⌝ }
 {
@@ -109,7 +107,7 @@ fn agrees(cell: u8, v: u8) -> bool
     cell == v
 }
 
-pub(crate) fn accept_no(m: &Image, table: &[u8], n: usize, s: usize, k: usize, v: u8) -> u8
+pub fn accept_no(m: &Image, table: &[u8], n: usize, s: usize, k: usize, v: u8) -> u8
     requires { ⌜ IsImage (now m) ⌝ }
     ensures { λ r. ⌜ r ≡ noNumber (ownQuestions (Call.accept n s k v) (jobOf (now (m .entry))) (now (table .entry))) ⌝ }
 {
@@ -159,7 +157,7 @@ pub fn node_read(m: &Image, n: usize, s: usize) -> usize
     n
 }
 
-pub(crate) fn look_no(m: &Image, table: &[u8], n: usize, s: usize, k: usize) -> u8
+pub fn look_no(m: &Image, table: &[u8], n: usize, s: usize, k: usize) -> u8
     requires { ⌜ IsImage (now m) ⌝ }
     ensures { λ r. ⌜ r ≡ noNumber (ownQuestions (Call.look n s k) (jobOf (now (m .entry))) (now (table .entry))) ⌝ }
 {
@@ -179,7 +177,7 @@ pub(crate) fn look_no(m: &Image, table: &[u8], n: usize, s: usize, k: usize) -> 
     0
 }
 
-pub(crate) fn close_no(m: &Image, table: &[u8]) -> u8
+pub fn close_no(m: &Image, table: &[u8]) -> u8
     requires { ⌜ IsImage (now m) ⌝ }
     ensures { λ r. ⌜ r ≡ noNumber (ownQuestions Call.close (jobOf (now (m .entry))) (now (table .entry))) ⌝ }
 {

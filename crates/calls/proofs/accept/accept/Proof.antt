@@ -8,7 +8,7 @@ use Rattle.cells.specs.Fragment.{inFragment}
 use Rattle.cells.specs.Table.{Table}
 use Rattle.cells.specs.Calls.{Call, width, told, left}
 use Rattle.image.specs.Image.{jobOf}
-use Rattle.questions.specs.Asked.{callOf, Admitted}
+use Rattle.asking.specs.Asked.{callOf, Admitted}
 use Rattle.table.specs.Lent.{Ready, IsCell}
 use Rattle.questions.proofs.FineLaws.{accept-fine}
 use Rattle.calls.specs.Told.{acceptTold}

@@ -8,7 +8,7 @@ use Rattle.cells.specs.Close.{smallestOpen}
 use Rattle.cells.specs.Table.{Table}
 use Rattle.cells.specs.Calls.{Call, width}
 use Rattle.image.specs.Image.{jobOf}
-use Rattle.questions.specs.Asked.{callOf, Admitted}
+use Rattle.asking.specs.Asked.{callOf, Admitted}
 use Rattle.table.specs.Lent.{Ready}
 use Rattle.questions.proofs.FineLaws.{close-fine}
 use Rattle.calls.specs.Told.{closeTold}

@@ -6,7 +6,7 @@ use native.Mathlib.Omega.{arith}
 use Rattle.job.specs.Answer.{accepted}
 use Rattle.cells.specs.Table.{Table}
 use Rattle.cells.specs.Calls.{Call, width}
-use Rattle.questions.specs.Asked.{callOf, Admitted}
+use Rattle.asking.specs.Asked.{callOf, Admitted}
 use Rattle.table.specs.Lent.{Ready}
 use Rattle.questions.proofs.NoLaws.{table-ready}
 use Rattle.calls.specs.Told.{finishTold, finishRounds}

@@ -6,7 +6,7 @@ use Rattle.job.specs.Answer.{accepted}
 use Rattle.cells.specs.Table.{Table}
 use Rattle.cells.specs.Calls.{Call, width, told, left}
 use Rattle.image.specs.Image.{jobOf}
-use Rattle.questions.specs.Asked.{callOf, Admitted}
+use Rattle.asking.specs.Asked.{callOf, Admitted}
 use Rattle.table.specs.Lent.{Ready}
 use Rattle.questions.proofs.FineLaws.{step-fine}
 use Rattle.calls.specs.Told.{stepTold}

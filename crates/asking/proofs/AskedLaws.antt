@@ -11,7 +11,7 @@ use Rattle.cells.specs.Calls.{Call, ownQuestions}
 use Rattle.cells.proofs.CallLaws.{text-refused, own-refused, own-accepted}
 use Rattle.image.specs.Image.{jobOf}
 use Rattle.decoding.specs.ImageRead.{IsRead, ImageRead}
-use Rattle.questions.specs.Asked.{Asked}
+use Rattle.asking.specs.Asked.{Asked}
 
 module _ (c : Call) (x : Text) (t : Table) (m : List ℕ) where
   -- a no to one of questions 1 to 8

@@ -11,8 +11,8 @@ use Rattle.job.specs.declared.reading.Refusal.{Refusal}
 use Rattle.cells.specs.Table.{Table}
 use Rattle.cells.specs.Calls.{Call, step, offer, accept, look, close, finish, ownQuestions, width, told, left, answer, after}
 use Rattle.image.specs.Image.{IsImage, jobOf}
-use Rattle.questions.specs.declared.ask.Asking.{Asking}
-use Rattle.questions.specs.declared.ask.Asking.the-variants.{Step, Offer, Accept, Look, Close, Finish}
+use Rattle.asking.specs.declared.Asking.{Asking}
+use Rattle.asking.specs.declared.Asking.the-variants.{Step, Offer, Accept, Look, Close, Finish}
 
 -- The call that a case names.
 unfoldable pub callOf : Asking → Call

@@ -1,19 +1,20 @@
-// All questions of a call on a table: 1 to 8, which every call puts first, and then its own.
+// All questions of a call on a table, put in order: 1 to 8, for which the text is read into the image of its job, and then the call's own.
+// Where one is answered no the call is refused by it; where none is, the image is there to work on.
 ghost use mathlib.Core.Path.{_≡_};
 ghost use lib.ListN.{replicate};
 ghost use Rattle.job.specs.Question.{noNumber};
 ghost use Rattle.cells.specs.Calls.{ownQuestions};
 ghost use Rattle.image.specs.Image.{IsImage, jobOf};
-ghost use Rattle.questions.specs.Asked.{callOf, Asked};
-use crate::accept_no;
-use crate::close_no;
-use crate::look_no;
-use crate::offer_no;
-use crate::step_no;
-use crate::table_no;
+ghost use Rattle.asking.specs.Asked.{callOf, Asked};
 use decoding::read::read_image;
 use image::image::Image;
 use job::reading::Refusal;
+use questions::accept_no;
+use questions::close_no;
+use questions::look_no;
+use questions::offer_no;
+use questions::step_no;
+use questions::table_no;
 
 // A call with the numbers passed. Fresh, which decodes nothing, is not among them.
 pub enum Asking {

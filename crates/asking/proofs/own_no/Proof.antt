@@ -3,10 +3,10 @@ use mathlib.Core.Path.{sym, ap, _∙_}
 use Rattle.job.specs.Question.{noNumber}
 use Rattle.cells.specs.Calls.{ownQuestions}
 use Rattle.image.specs.Image.{jobOf}
-use Rattle.questions.specs.Asked.{callOf}
+use Rattle.asking.specs.Asked.{callOf}
 use borrow.Author.Needs.{needs}
-use Rattle.questions.proofs.ask.own_no.Statement.{statement}
-use Rattle.questions.proofs.ask.own_no.Tie as tie
+use Rattle.asking.proofs.own_no.Statement.{statement}
+use Rattle.asking.proofs.own_no.Tie as tie
 
 returns : tie.Need-returns
 unfolding callOf

@@ -1,7 +1,7 @@
 -- `ask`: the reader's refusal, or by the call's own questions.
-use Rattle.questions.proofs.AskedLaws.{text-asked, own-asked}
-use Rattle.questions.proofs.ask.ask.Statement.{statement}
-use Rattle.questions.proofs.ask.ask.Tie as tie
+use Rattle.asking.proofs.AskedLaws.{text-asked, own-asked}
+use Rattle.asking.proofs.ask.Statement.{statement}
+use Rattle.asking.proofs.ask.Tie as tie
 
 returns : tie.Need-returns
 returns c = text-asked _ _ _ _ _ (c .before .before .read-image .ensures) (c .if1 .taken)
