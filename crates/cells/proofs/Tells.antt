@@ -55,16 +55,9 @@ opposite-tells c b l right =
     (λ e. rw e (false-tells (not b) (not-is-false b (right .inside e))))
     (λ e. rw e (empty-tells (not b)))
 
--- back from the other value
-pub opposite-zero : (c : ℕ) → c ≤ 2 → opposite c ≡ 1 → c ≡ 0
+pub opposite-twice : (c : ℕ) → c ≤ 2 → opposite (opposite c) ≡ c
 unfolding opposite isEmpty
-opposite-zero c low e =
-    by-cell c low (λ z. z) (λ z. absurd (omega (arith, rw z at e))) (λ z. absurd (omega (arith, rw z at e)))
-
-pub opposite-one : (c : ℕ) → c ≤ 2 → opposite c ≡ 0 → c ≡ 1
-unfolding opposite isEmpty
-opposite-one c low e =
-    by-cell c low (λ z. absurd (omega (arith, rw z at e))) (λ z. z) (λ z. absurd (omega (arith, rw z at e)))
+opposite-twice c low = by-cell c low (λ e. rw e refl) (λ e. rw e refl) (λ e. rw e refl)
 
 module _
     (at : ℕ → ℕ → ℕ) (T : ℕ → ℕ → Bool) (k s : ℕ)

@@ -19,7 +19,7 @@ use Rattle.ctl.proofs.Total.{State, Total, total-job}
 use Rattle.cells.specs.Table.{Table, cell, ownerCell}
 use Rattle.cells.specs.SetRule.{SetRule}
 use Rattle.cells.specs.Close.{isTemporal}
-use Rattle.cells.specs.Calls.{Call, step, accept, look, close, finish, questions, width, told}
+use Rattle.cells.specs.Calls.{Call, step, offer, accept, look, close, finish, questions, width, told}
 use Rattle.cells.specs.Cases.{bytes, jobV, job2, job3}
 use Rattle.cells.specs.AllAlong.{ringJob, impliesJob}
 use Rattle.rule_text.specs.declared.token.Prefix.{Prefix as PrefixOperator}
@@ -35,7 +35,7 @@ use Rattle.rule_text.proofs.Worked.{exampleRule, example-limits}
 use Rattle.promises.specs.Contracts.{Loan, Happens, Reads, HandsBack, Prints, Rules, PrintsRule, MayHappen}
 use Rattle.promises.specs.Demand1.{AnswersBy}
 use Rattle.promises.specs.Demand2.{Accepts, JobText, FilledByRules, SmallestAndLargest, Judged}
-use Rattle.promises.specs.Demand3.{FreshFor, ListOfCalls, leftBy, toldBy, AsDefined, CellsTrue, OneMoreFinish, OneMachine}
+use Rattle.promises.specs.Demand3.{FreshFor, ListOfCalls, leftBy, callsOf, AsDefined, CellsTrue, OneMoreFinish, OneMachine}
 use Rattle.promises.specs.UnnamedNode.{unnamedQuestions, unknownNodeQuestions}
 use Rattle.promises.specs.AllAlong.{HasLine, FilledAllAlong, ClosedByKind, kindsAdmitted}
 use Rattle.promises.specs.RuleText.{LinesWritten, LastLineIsTruth, LinesInOrder, InJob, RulePrinted}
@@ -265,8 +265,14 @@ two-cuttings = one-machine
 
 pub calls-with-messages :
     (calls : ListOfCalls (bytes job2))
-    × (toldBy calls
-    ≡ accepted (5 ∷ []) ∷ accepted (1 ∷ 2 ∷ 1 ∷ []) ∷ accepted (1 ∷ []) ∷ accepted (0 ∷ []) ∷ refused 16 0 1 ∷ refused 1 1 2 ∷ [])
+    × (callsOf calls
+    ≡ (step 1, accepted (5 ∷ []))
+    ∷ (offer 1 2, accepted (1 ∷ 2 ∷ 1 ∷ []))
+    ∷ (accept 0 1 2 1, accepted (1 ∷ []))
+    ∷ (accept 0 1 2 1, accepted (0 ∷ []))
+    ∷ (accept 1 1 2 1, refused 16 0 1)
+    ∷ (close, refused 1 1 2)
+    ∷ [])
 calls-with-messages = example
 
 pub a-rule-in-limits : (b : List ℕ) → length b ≡ 512 → InLimits exampleRule b
@@ -286,6 +292,11 @@ a-job-with-ag = has-ag
 
 pub calls-all-along :
     (calls : ListOfCalls (bytes ringJob))
-    × (toldBy calls
-    ≡ accepted (2 ∷ []) ∷ accepted (2 ∷ []) ∷ accepted (1 ∷ 4 ∷ []) ∷ accepted (0 ∷ 1 ∷ 1 ∷ []) ∷ accepted (0 ∷ []) ∷ [])
+    × (callsOf calls
+    ≡ (step 0, accepted (2 ∷ []))
+    ∷ (step 1, accepted (2 ∷ []))
+    ∷ (close, accepted (1 ∷ 4 ∷ []))
+    ∷ (offer 0 1, accepted (0 ∷ 1 ∷ 1 ∷ []))
+    ∷ (accept 1 0 1 1, accepted (0 ∷ []))
+    ∷ [])
 calls-all-along = ring-example

@@ -43,7 +43,7 @@ use Rattle.cells.proofs.Lower.{open-sets}
 use Rattle.cells.proofs.Repeat.{bySets-at}
 use Rattle.cells.proofs.Sets.{smallest-is, largest-is}
 use Rattle.cells.proofs.Settled.{settled-is}
-use Rattle.cells.proofs.Tells.{opposite-zero, opposite-one}
+use Rattle.cells.proofs.Tells.{opposite-twice}
 use Rattle.promises.specs.Contracts.{Loan, Happens}
 use Rattle.promises.specs.Demand2.{ruled}
 use Rattle.promises.specs.AllAlong.{FalseIn, TrueIn, FilledAllAlong, ClosesTo, six, seven, eight, nine, kindOf, ClosedByKind, admitted, kindsAdmitted}
@@ -94,9 +94,9 @@ module _ (J : Job) (n : ℕ) (at : ℕ → ℕ → ℕ) (low : (j s : ℕ) → a
   false-joins X s (FalseIn.follows e i o) = sets.grows e i refl o
 
   joins-false : (X : ℕ → Bool) (s : ℕ) → sets.Joins J n own R X s → FalseIn J n own (at a) q X s
-  unfolding known
+  unfolding known opposite isEmpty
   joins-false X s (sets.already e) = FalseIn.already e
-  joins-false X s (sets.starts e i z) = FalseIn.fails e i (opposite-zero (at a s) (low a s) z)
+  joins-false X s (sets.starts e i z) = FalseIn.fails e i (sym (opposite-twice (at a s) (low a s)) ∙ ap opposite z)
   joins-false X s (sets.grows e i g o) = FalseIn.follows e i o
 
   true-stays : (X : ℕ → Bool) (s : ℕ) → TrueIn J n own (at a) q (member L) X s → sets.Stays J n own R L X s
@@ -105,10 +105,10 @@ module _ (J : Job) (n : ℕ) (at : ℕ → ℕ → ℕ) (low : (j s : ℕ) → a
   true-stays X s (TrueIn.follows e out i o over) = sets.follows e out i (rw o refl) over
 
   stays-true : (X : ℕ → Bool) (s : ℕ) → sets.Stays J n own R L X s → TrueIn J n own (at a) q (member L) X s
-  unfolding known
+  unfolding known opposite isEmpty
   stays-true X s (sets.other e) = TrueIn.already e
   stays-true X s (sets.blocked e out i z g) = absurd (omega arith)
-  stays-true X s (sets.follows e out i z over) = TrueIn.follows e out i (opposite-one (at a s) (low a s) z) over
+  stays-true X s (sets.follows e out i z over) = TrueIn.follows e out i (sym (opposite-twice (at a s) (low a s)) ∙ ap opposite z) over
 
   all-along-sets :
       (after : ℕ → ℕ)

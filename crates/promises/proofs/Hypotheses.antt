@@ -22,7 +22,7 @@ use Rattle.cells.specs.AllAlong.{ringJob, impliesJob}
 use Rattle.cells.proofs.CallLaws.{fresh-accepted}
 use Rattle.cells.proofs.Printed.{printed}
 use Rattle.promises.specs.Contracts.{Loan, Happens}
-use Rattle.promises.specs.Demand3.{Event, Happened, Message, handedOut, isRefused, isMeant, Meant, FreshFor, ListOfCalls, toldBy, OneMachine}
+use Rattle.promises.specs.Demand3.{Event, Happened, Message, handedOut, isRefused, isMeant, Meant, FreshFor, ListOfCalls, callsOf, OneMachine}
 use Rattle.promises.specs.AllAlong.{HasLine}
 use Rattle.promises.proofs.Contracts.{may-happen}
 
@@ -136,11 +136,17 @@ events-meant = (
   ),
 )
 
--- what the calls answered
+-- the list, and what its calls answered
 pub example :
     (calls : ListOfCalls (bytes job2))
-    × (toldBy calls
-    ≡ accepted (5 ∷ []) ∷ accepted (1 ∷ 2 ∷ 1 ∷ []) ∷ accepted (1 ∷ []) ∷ accepted (0 ∷ []) ∷ refused 16 0 1 ∷ refused 1 1 2 ∷ [])
+    × (callsOf calls
+    ≡ (step 1, accepted (5 ∷ []))
+    ∷ (offer 1 2, accepted (1 ∷ 2 ∷ 1 ∷ []))
+    ∷ (accept 0 1 2 1, accepted (1 ∷ []))
+    ∷ (accept 0 1 2 1, accepted (0 ∷ []))
+    ∷ (accept 1 1 2 1, refused 16 0 1)
+    ∷ (close, refused 1 1 2)
+    ∷ [])
 unfolding printed calls of-job start events played listed Accepted
 example = (listed (bytes job2) refl calls events-meant, refl)
 
@@ -175,8 +181,13 @@ ring-meant = (
 
 pub ring-example :
     (calls : ListOfCalls (bytes ringJob))
-    × (toldBy calls
-    ≡ accepted (2 ∷ []) ∷ accepted (2 ∷ []) ∷ accepted (1 ∷ 4 ∷ []) ∷ accepted (0 ∷ 1 ∷ 1 ∷ []) ∷ accepted (0 ∷ []) ∷ [])
+    × (callsOf calls
+    ≡ (step 0, accepted (2 ∷ []))
+    ∷ (step 1, accepted (2 ∷ []))
+    ∷ (close, accepted (1 ∷ 4 ∷ []))
+    ∷ (offer 0 1, accepted (0 ∷ 1 ∷ 1 ∷ []))
+    ∷ (accept 1 0 1 1, accepted (0 ∷ []))
+    ∷ [])
 unfolding printed ringJob ring-calls of-job start ring-events played listed Accepted
 ring-example = (listed (bytes ringJob) refl ring-calls ring-meant, refl)
 

@@ -84,8 +84,9 @@ pub record ListOfCalls (x : Text) : Type 0 where
 abbrev pub leftBy : {x : Text} → ListOfCalls x → Table
 leftBy calls = lastTable (calls .start) (calls .events)
 
-abbrev pub toldBy : {x : Text} → ListOfCalls x → List Answer
-toldBy calls = map (λ e. e .told) (calls .events)
+-- Its calls, each with its answer.
+abbrev pub callsOf : {x : Text} → ListOfCalls x → List (Call × Answer)
+callsOf calls = map (λ e. (e .call, e .told)) (calls .events)
 
 -- "each call fills and answers as defined"
 unfoldable pub AsDefined : Table → List Event → Type 0

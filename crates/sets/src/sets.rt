@@ -42,7 +42,7 @@ struct Marking {
     also: u8,
 }
 
-// For what is always met that is the state's own cell, which is empty where a mark asks.
+// The cell that a condition of subformula k wants: for what is always met it is the state's own, which is empty where a mark asks.
 fn wanted(k: usize, c: Condition) -> WantedCell
     ensures { λ r. ⌜ r ≡ wantedOf k c ⌝ }
 {
