@@ -15,7 +15,7 @@ use Rattle.job.specs.Job.{Job, size}
 use Rattle.job.specs.Written.{IsJob, edgeCount}
 use Rattle.cells.specs.Fragment.{inFragment}
 use Rattle.image.specs.Image.{IsImage, WORDS, FIRST, LAST, NEXT, PLACES, SIZES, MEMBERS, word, byNode, jobOf, firstEdge, lastInto, placeOf, fragmentSize, rank, fragmentState, Denotes}
-use Rattle.decoding.specs.Laid.{Laid, Chains, Chained, Listed, Added, Fragment, Fragments}
+use Rattle.decoding.specs.Laid.{Unlaid, Laid, Chains, Chained, Listed, Added, Fragment, Fragments}
 use Rattle.decoding.proofs.LaidLaws.{denotes-kept}
 use Rattle.decoding.proofs.ChainLaws.{chains-none}
 use Rattle.image.proofs.Places.{place-outside}
@@ -217,16 +217,10 @@ module _ (J : Job) (m : List ℕ) (d : Denotes J m) where
     runs-denote = denotes-kept J m n d (runs .long) (runs .below)
 
     -- what lies above the runs is still zero
-    pub runs-chains :
-        (start : List ℕ) → start ≡ replicate WORDS 0 → ((i : ℕ) → FIRST ≤ i → getD m i 0 ≡ getD start i 0) → Chains (jobOf n) 0 n n
-    runs-chains start zeros above =
+    pub runs-chains : Unlaid m → Chains (jobOf n) 0 n n
+    runs-chains zeros =
         let few = few-states in
-        chains-none (jobOf n) n (runs .long)
-        (λ i l g.
-        runs .above i (omega arith)
-        ∙ above i (omega arith)
-        ∙ ap (λ (z : List ℕ). getD z i 0) zeros
-        ∙ getD-replicate WORDS i 0 0 g)
+        chains-none (jobOf n) n (runs .long) (λ i l g. runs .above i (omega arith) ∙ zeros i (omega arith) g)
 
     module _ (o : List ℕ) (chains : Chains (jobOf n) (edgeCount (jobOf n)) n o) where
       pub chains-chained : Chained J o

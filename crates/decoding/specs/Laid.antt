@@ -3,16 +3,9 @@ use Prim.Native.Nat.{ℕ, _+_, _*_, _<_, _≤_}
 use mathlib.Core.Path.{_≡_}
 use mathlib.Core.List.{List}
 use lib.ListN.{length, getD}
-use Rattle.text.specs.Field.{Text, numberAt}
-use Rattle.job.specs.Layout as layout
 use Rattle.job.specs.Job.{Job, size, owner}
 use Rattle.job.specs.Written.{edgeCount}
-use Rattle.image.specs.Image.{WORDS, OWNERS, LABELS, SOURCES, TARGETS, KINDS, LEFTS, RIGHTS, FIRST, LAST, NEXT, PLACES, SIZES, MEMBERS, Denotes, word, byNode, edgeFrom, edgeTo, lastInto, placeOf, fragmentSize, rank, fragmentState}
-
--- The fields of n lines that begin `stride` bytes apart are in the text, and each number fits a word.
-pub record Readable (t : Text) (at stride n : ℕ) : Type 0 where
-  pub inside : (i : ℕ) → i < n → at + stride * i + 5 ≤ length t
-  pub small : (i : ℕ) → i < n → numberAt t (at + stride * i) < 65536
+use Rattle.image.specs.Image.{WORDS, FIRST, LAST, NEXT, PLACES, SIZES, MEMBERS, Denotes, word, byNode, edgeFrom, edgeTo, lastInto, placeOf, fragmentSize, rank, fragmentState}
 
 -- The first n words of a region hold f 0, f 1, .. now; every other word is as before.
 pub record Laid (before m : List ℕ) (region n : ℕ) (f : ℕ → ℕ) : Type 0 where
@@ -21,27 +14,9 @@ pub record Laid (before m : List ℕ) (region n : ℕ) (f : ℕ → ℕ) : Type 
   pub below : (i : ℕ) → i < region → getD m i 0 ≡ getD before i 0
   pub above : (i : ℕ) → region + n ≤ i → getD m i 0 ≡ getD before i 0
 
--- Line 1, the states and the edges of a text stand in their regions; every word behind these is as before.
-pub record StructureLaid (t : Text) (before m : List ℕ) : Type 0 where
-  pub long : length m ≡ WORDS
-  pub states : getD m 0 0 ≡ layout.states t
-  pub edges : getD m 1 0 ≡ layout.edges t
-  pub subformulas : getD m 2 0 ≡ layout.subformulas t
-  pub nodes : getD m 3 0 ≡ layout.nodes t
-  pub owners : (s : ℕ) → s < layout.states t → word m OWNERS s ≡ layout.ownerField t s
-  pub labels : (s : ℕ) → s < layout.states t → word m LABELS s ≡ layout.labelField t s
-  pub sources : (e : ℕ) → e < layout.edges t → word m SOURCES e ≡ layout.sourceField t e
-  pub targets : (e : ℕ) → e < layout.edges t → word m TARGETS e ≡ layout.targetField t e
-  pub above : (i : ℕ) → KINDS ≤ i → getD m i 0 ≡ getD before i 0
-
--- So do its subformulas; every other word is as before.
-pub record FormulaLaid (t : Text) (before m : List ℕ) : Type 0 where
-  pub long : length m ≡ WORDS
-  pub kinds : (k : ℕ) → k < layout.subformulas t → word m KINDS k ≡ layout.kindField t k
-  pub lefts : (k : ℕ) → k < layout.subformulas t → word m LEFTS k ≡ layout.leftField t k
-  pub rights : (k : ℕ) → k < layout.subformulas t → word m RIGHTS k ≡ layout.rightField t k
-  pub below : (i : ℕ) → i < KINDS → getD m i 0 ≡ getD before i 0
-  pub above : (i : ℕ) → FIRST ≤ i → getD m i 0 ≡ getD before i 0
+-- Nothing is laid behind the numbers of the text yet.
+abbrev pub Unlaid : List ℕ → Type 0
+Unlaid m = (i : ℕ) → FIRST ≤ i → i < WORDS → getD m i 0 ≡ 0
 
 -- Which chain edge e is in: that of its node and the state that it ends at.
 abbrev pub chainOf : Job → ℕ → ℕ

@@ -1,31 +1,22 @@
-// The image of an accepted text, laid region by region.
+// What is derived from the numbers of a text, laid region by region behind them.
 ghost use mathlib.Core.Path.{_≡_};
 ghost use Prim.Native.Nat.{_+_, _*_, _<_, _≤_};
-ghost use lib.ListN.{length, set, replicate};
-ghost use Rattle.text.specs.Field.{numberAt};
-ghost use Rattle.job.specs.Job.{size, decode as jobIn};
+ghost use lib.ListN.{length, set};
+ghost use Rattle.job.specs.Job.{size};
 ghost use Rattle.job.specs.Written.{edgeCount};
-ghost use Rattle.job.specs.Read.{readTold, readAnswer};
-ghost use Rattle.job.specs.declared.reading.Reading.the-variants.{Accepted};
 ghost use Rattle.image.specs.Image.{IsImage, WORDS, FIRST as FIRST_, jobOf, firstEdge, placeOf, rank, Denotes};
-ghost use Rattle.decoding.specs.Laid.{Readable, Laid, StructureLaid, FormulaLaid, chainOf, Chains, Chained, Added, Fragment, Fragments};
+ghost use Rattle.decoding.specs.Laid.{Laid, Unlaid, chainOf, Chains, Chained, Added, Fragment, Fragments};
 use image::image::FIRST;
 use image::image::Image;
-use image::image::KINDS;
-use image::image::LABELS;
 use image::image::LAST;
-use image::image::LEFTS;
 use image::image::MEMBERS;
 use image::image::NEXT;
 use image::image::OWNERS;
 use image::image::PLACES;
-use image::image::RIGHTS;
 use image::image::SIZES;
 use image::image::SOURCES;
 use image::image::TARGETS;
 use image::image::word;
-use job::reading::Header;
-use text::field::number;
 
 // A number as the word at i.
 fn store(m: &mut Image, i: usize, v: usize)
@@ -33,44 +24,6 @@ fn store(m: &mut Image, i: usize, v: usize)
     ensures { λ _. ⌜ now (m .exit) ≡ set (now (m .entry)) i v ⌝ }
 {
     m[i] = v as u16;
-}
-
-// One number of each of `count` lines: the first stands at `at`, the others a line's length apart.
-fn lay_numbers(text: &[u8], m: &mut Image, region: usize, at: usize, stride: usize, count: usize)
-    requires { ⌜ (length (now m) ≡ WORDS) × (region + count ≤ WORDS) ⌝ }
-    requires { ⌜ Readable (now text) at stride count ⌝ }
-    ensures { λ _. ⌜ Laid (now (m .entry)) (now (m .exit)) region count (λ i. numberAt (now (text .entry)) (at + stride * i)) ⌝ }
-{
-    for i in 0..count {
-        let n = number(text, at + stride * i);
-        store(m, region + i, n);
-    }
-}
-
-// Line 1, the states and the edges.
-fn lay_structure(text: &[u8], h: Header, m: &mut Image)
-    requires { ⌜ readTold (Accepted h) ≡ readAnswer (now text) ⌝ }
-    requires { ⌜ length (now m) ≡ WORDS ⌝ }
-    ensures { λ _. ⌜ StructureLaid (now (text .entry)) (now (m .entry)) (now (m .exit)) ⌝ }
-{
-    let edge_lines = 21 + 11 * h.states;
-    lay_numbers(text, m, 0, 0, 5, 4);
-    lay_numbers(text, m, OWNERS, 21, 11, h.states);
-    lay_numbers(text, m, LABELS, 26, 11, h.states);
-    lay_numbers(text, m, SOURCES, edge_lines, 11, h.edges);
-    lay_numbers(text, m, TARGETS, edge_lines + 5, 11, h.edges);
-}
-
-// The subformulas.
-fn lay_formula(text: &[u8], h: Header, m: &mut Image)
-    requires { ⌜ readTold (Accepted h) ≡ readAnswer (now text) ⌝ }
-    requires { ⌜ length (now m) ≡ WORDS ⌝ }
-    ensures { λ _. ⌜ FormulaLaid (now (text .entry)) (now (m .entry)) (now (m .exit)) ⌝ }
-{
-    let lines = 21 + 11 * (h.states + h.edges);
-    lay_numbers(text, m, KINDS, lines, 16, h.subformulas);
-    lay_numbers(text, m, LEFTS, lines + 5, 16, h.subformulas);
-    lay_numbers(text, m, RIGHTS, lines + 10, 16, h.subformulas);
 }
 
 // The first edge from `from` on that starts at state s or above.
@@ -182,15 +135,13 @@ fn lay_fragments(m: &mut Image)
     }
 }
 
-// The image of an accepted text, whose first line has the numbers of h, in an array of zeros.
-pub(crate) fn decode(text: &[u8], h: Header, m: &mut Image)
-    requires { ⌜ readTold (Accepted h) ≡ readAnswer (now text) ⌝ }
-    requires { ⌜ now m ≡ replicate 13165 0 ⌝ }
+// The image of the job that the first regions denote, where the others are zeros.
+pub(crate) fn lay_derived(m: &mut Image)
+    requires { ⌜ Denotes (jobOf (now m)) (now m) ⌝ }
+    requires { ⌜ Unlaid (now m) ⌝ }
     ensures image { λ _. ⌜ IsImage (now (m .exit)) ⌝ }
-    ensures denotes { λ _. ⌜ jobOf (now (m .exit)) ≡ jobIn (now (text .entry)) ⌝ }
+    ensures denotes { λ _. ⌜ jobOf (now (m .exit)) ≡ jobOf (now (m .entry)) ⌝ }
 {
-    lay_structure(text, h, m);
-    lay_formula(text, h, m);
     lay_first(m);
     lay_chains(m);
     lay_fragments(m);

@@ -6,7 +6,7 @@ use mathlib.Core.List.{List, [], _∷_}
 use native.Mathlib.Omega.{arith}
 use borrow.Author.Tests.{le-leb, lt-leb, eq-eqb, ne-eqb, eqb-true}
 use lib.ListN.{length, getD}
-use lib.Dec.{leb, lit≤}
+use lib.Dec.{leb}
 use Rattle.law.proofs.Bool.{split, and-four}
 use Rattle.law.proofs.Bounded.{by-order}
 use Rattle.job.proofs.Asked.{within-between}
@@ -116,15 +116,6 @@ module _ (t : Text) (pairs l : ℕ) (same : states t + edges t ≡ pairs) (g : 1
   pub fields-three : 1 + pairs < l → fieldsOf t l ≡ 3
   unfolding fieldsOf
   fields-three h = simp (lt-leb l 1 g, lt-leb l (1 + states t + edges t) (omega arith))
-
-pub fields-few : (t : Text) (l : ℕ) → fieldsOf t l ≤ 4
-fields-few t l =
-    by-order 1 l
-    (λ g.
-    by-order (1 + (states t + edges t)) l
-    (λ m. rw (fields-three t (states t + edges t) l refl g m) (lit≤ tt))
-    (λ m. rw (fields-two t (states t + edges t) l refl g m) (lit≤ tt)))
-    (λ g. rw (fields-four t l g) (lit≤ tt))
 
 -- The line asked for, where the head accepts and where it does not.
 pub line-refused : (t : Text) (l number line : ℕ) → refused number line 4 ≡ headAnswer t → hasLine t l ≡ false

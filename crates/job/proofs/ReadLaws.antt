@@ -1,34 +1,33 @@
--- How the reader's answer comes about where the head accepts: a question about lines is answered yes, or it is the first no,
--- by the first line that fails it. Assumes nothing.
-use Prim.Native.Nat.{ℕ, suc, _+_, _*_, _<_, _≤_}
+-- How the reader's answer comes about where the head accepts: question 4 is answered yes, or it is the first no, by the first line that
+-- fails it; and what an accepted answer says of the text. Assumes nothing.
+use Prim.Native.Nat.{ℕ, _+_, _*_, _<_, _≤_}
 use mathlib.Core.Path.{_≡_, refl, sym, _∙_, ap}
-use mathlib.Core.Bool.{Bool, true, not}
+use mathlib.Core.Bool.{true, not}
 use mathlib.Core.List.{List, [], _∷_}
 use mathlib.Core.Option as opt
-use native.Mathlib.Nat.{add-assoc, mul-le-mul}
+use native.Mathlib.Nat.{mul-le-mul}
 use native.Mathlib.Omega.{arith}
-use borrow.Author.Tests.{eq-eqb, ne-eqb, ltb-true}
+use borrow.Author.Tests.{ne-eqb, ltb-true}
 use lib.ListN.{drop}
 use lib.Dec.{ltb}
 use Rattle.law.specs.Bounded.{first, all}
 use Rattle.law.specs.Lists.{every}
-use Rattle.law.proofs.Bounded.{first-le, all-elim}
 use Rattle.law.proofs.Lists.{tab-length}
 use Rattle.text.specs.Field.{Text}
 use Rattle.job.specs.Layout.{states, edges, subformulas, nodes, labelField, kindField, leftField, rightField}
 use Rattle.job.specs.Question.{Question, refusal, answered}
-use Rattle.job.specs.Questions.{ofLineOne, ofLines, firstLine, ranges, textLength, lineFields, stateLines, edgeLines, edgesOut, formulaLines, headQuestions, lineQuestions, textQuestions, formedLine, stateOk, edgeOk, hasEdgeOut, formulaOk, Accepted as Accepted-text}
+use Rattle.job.specs.Questions.{ofLineOne, ofLines, firstLine, ranges, textLength, lineFields, stateLines, edgeLines, edgesOut, formulaLines, headQuestions, lineQuestions, textQuestions, formedLine, Accepted as Accepted-text}
 use Rattle.job.specs.Formula.{parsed, formula}
 use Rattle.job.specs.Job.{size, subformulaCount, decode}
 use Rattle.job.specs.Answer.{accepted, refused}
 use Rattle.job.specs.Read.{header, headAnswer, readAnswer, readTold, refusalOf}
-use Rattle.job.specs.Leaves.{Fits, SourcesInside}
+use Rattle.job.specs.Leaves.{Fits}
 use Rattle.job.specs.declared.reading.Header.{Header}
 use Rattle.job.specs.declared.reading.Refusal.{Refusal}
 use Rattle.job.specs.declared.reading.Reading.{Reading}
 use Rattle.job.specs.declared.reading.Reading.the-variants.{Accepted, Refused}
 use Rattle.job.proofs.QuestionLaws.{ComesTo, first-refused, refused-not-accepted, by-refusal, refusal-has, answered-yes, answered-no, answered-none, answered-some, accepted-none, accepted-own, refusal-before, answered-behind}
-use Rattle.job.proofs.Asked.{Passed, edge-ends, accepted-passed}
+use Rattle.job.proofs.Asked.{Passed, accepted-passed}
 use Rattle.job.proofs.LayoutLaws.{head-fits}
 
 -- A refusal by the head is the reader's.
@@ -37,78 +36,29 @@ unfolding headAnswer readAnswer textQuestions
 read-head-refused t number line told =
     first-refused (headQuestions t) (lineQuestions t) 4 (header t) t t 4 (header t) number line 4 told .0
 
--- The reader's answer is what is left of it behind k questions that are answered yes.
-abbrev pub Behind : Text → ℕ → Type 0
-Behind t k = readAnswer t ≡ answered (drop k (textQuestions t)) 4 (header t)
-
--- A question about n lines from line l on, of which b is the first that fails, or n.
-module _ (ok : ℕ → Bool) (n b : ℕ) (found : b ≡ first (λ i. not (ok i)) n) where
-  lines-yes : n ≤ b → all ok n ≡ true
-  unfolding all
-  lines-yes h = eq-eqb (first (λ i. not (ok i)) n) n (omega (arith, first-le (λ i. not (ok i)) n))
-
-  -- it stands behind k others
-  module _
-      (t : Text) (k number l : ℕ)
-      (next : drop k (textQuestions t) ≡ ofLines number ok n l ∷ drop (suc k) (textQuestions t))
-      (behind : Behind t k)
-    where
-      abbrev here : Question
-      here = ofLines number ok n l
-
-      now : readAnswer t ≡ answered (here ∷ drop (suc k) (textQuestions t)) 4 (header t)
-      now = behind ∙ ap (λ qs. answered qs 4 (header t)) next
-
-      pub lines-pass : n ≤ b → Behind t (suc k)
-      unfolding ofLines
-      lines-pass h = now ∙ answered-yes here (drop (suc k) (textQuestions t)) 4 (header t) (lines-yes h)
-
-      pub lines-refuse : b < n → refused number (l + b) 4 ≡ readAnswer t
-      unfolding ofLines all
-      lines-refuse h =
-          let no = ne-eqb (first (λ i. not (ok i)) n) n (λ e. omega arith) in
-          rw found (sym (now ∙ answered-no here (drop (suc k) (textQuestions t)) 4 (header t) no))
-
--- The questions about lines in their order, in line 1's numbers.
+-- Where the head accepts, question 4 comes next: it is answered yes, and what is left are questions 5 to 8, or it is the first no.
 module _ (t : Text) (h : Header) (fits : Fits t h) where
-  pub head-behind : Behind t 3
-  unfolding readAnswer textQuestions headQuestions
-  head-behind = answered-behind (headQuestions t) (lineQuestions t) 4 (header t) (fits .head-yes)
+  abbrev count : ℕ
+  count = h .states + h .edges + h .subformulas
 
-  pub fields-next : drop 3 (textQuestions t) ≡ ofLines 4 (formedLine t) (h .states + h .edges + h .subformulas) 2 ∷ drop 4 (textQuestions t)
-  unfolding textQuestions headQuestions lineQuestions lineFields
-  fields-next = rw (fits .states-are, fits .edges-are, fits .subformulas-are)
+  abbrev fourth : Question
+  fourth = ofLines 4 (formedLine t) count 2
 
-  pub states-next : drop 4 (textQuestions t) ≡ ofLines 5 (stateOk t) (h .states) 2 ∷ drop 5 (textQuestions t)
-  unfolding textQuestions headQuestions lineQuestions stateLines
-  states-next = rw (fits .states-are)
+  behind-head : readAnswer t ≡ answered (fourth ∷ drop 4 (textQuestions t)) 4 (header t)
+  unfolding readAnswer textQuestions headQuestions lineQuestions lineFields
+  behind-head =
+      answered-behind (headQuestions t) (lineQuestions t) 4 (header t) (fits .head-yes)
+      ∙ rw (fits .states-are, fits .edges-are, fits .subformulas-are)
 
-  pub edges-next : drop 5 (textQuestions t) ≡ ofLines 6 (edgeOk t) (h .edges) (2 + h .states) ∷ drop 6 (textQuestions t)
-  unfolding textQuestions headQuestions lineQuestions edgeLines
-  edges-next = rw (fits .states-are, fits .edges-are)
+  pub fields-pass : all (formedLine t) count ≡ true → readAnswer t ≡ answered (drop 4 (textQuestions t)) 4 (header t)
+  unfolding ofLines
+  fields-pass passed = behind-head ∙ answered-yes fourth (drop 4 (textQuestions t)) 4 (header t) passed
 
-  pub edges-out-next : drop 6 (textQuestions t) ≡ ofLines 7 (hasEdgeOut t) (h .states) 2 ∷ drop 7 (textQuestions t)
-  unfolding textQuestions headQuestions lineQuestions edgesOut
-  edges-out-next = rw (fits .states-are)
-
-  pub formulas-next : drop 7 (textQuestions t) ≡ ofLines 8 (formulaOk t) (h .subformulas) (2 + (h .states + h .edges)) ∷ drop 8 (textQuestions t)
-  unfolding textQuestions headQuestions lineQuestions formulaLines
-  formulas-next =
-      rw (fits .states-are, fits .edges-are, fits .subformulas-are)
-      (ap (λ l. ofLines 8 (formulaOk t) (h .subformulas) l ∷ []) (add-assoc 2 (h .states) (h .edges)))
-
-  -- question 6 bounds what the marks of question 7 are indexed by
-  pub sources-inside : (b : ℕ) → b ≡ first (λ e. not (edgeOk t e)) (h .edges) → h .edges ≤ b → SourcesInside t
-  sources-inside b found y e l =
-      let ends = edge-ends t e (all-elim (edgeOk t) (h .edges) (lines-yes (edgeOk t) (h .edges) b found y) e (omega (arith, fits .edges-are))) in
-      omega (arith, fits .states-are, fits .states-to)
-
-  -- all eight questions are answered yes
-  pub read-accepted : Behind t 8 → readTold (Accepted h) ≡ readAnswer t
-  unfolding readTold header textQuestions headQuestions lineQuestions refusal
-  read-accepted behind =
-      rw (← (fits .states-are), ← (fits .edges-are), ← (fits .subformulas-are), ← (fits .nodes-are))
-      (sym (behind ∙ answered-none [] 4 (header t) refl))
+  pub fields-refuse : (b : ℕ) → b < count → first (λ i. not (formedLine t i)) count ≡ b → refused 4 (2 + b) 4 ≡ readAnswer t
+  unfolding ofLines all
+  fields-refuse b l found =
+      let fails = ne-eqb (first (λ i. not (formedLine t i)) count) count (λ e. omega arith) in
+      rw (← found) (sym (behind-head ∙ answered-no fourth (drop 4 (textQuestions t)) 4 (header t) fails))
 
 -- What the reader's accepted answer says of the text.
 module _ (t : Text) (h : Header) (told : readTold (Accepted h) ≡ readAnswer t) where

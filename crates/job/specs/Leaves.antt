@@ -1,10 +1,10 @@
 -- What the reader's leaves are given and what they promise, short of a whole answer. Assumes nothing.
-use Prim.Native.Nat.{ℕ, _+_, _*_, _≤_, _<_}
+use Prim.Native.Nat.{_+_, _*_, _≤_}
 use mathlib.Core.Path.{_≡_}
 use mathlib.Core.Bool.{true}
 use lib.ListN.{length}
 use Rattle.text.specs.Field.{Text}
-use Rattle.job.specs.Layout.{states, edges, subformulas, nodes, sourceField}
+use Rattle.job.specs.Layout.{states, edges, subformulas, nodes}
 use Rattle.job.specs.Question.{allYes}
 use Rattle.job.specs.Questions.{headQuestions}
 use Rattle.job.specs.declared.reading.Header.{Header}
@@ -25,7 +25,3 @@ pub record Fits (t : Text) (h : Header) : Type 0 where
   pub nodes-to : h .nodes ≤ 8
   pub sized : length t ≡ 21 + 11 * h .states + 11 * h .edges + 16 * h .subformulas
   pub head-yes : allYes (headQuestions t) ≡ true
-
--- Each edge line starts from one of at most 256 states.
-abbrev pub SourcesInside : Text → Type 0
-SourcesInside t = (e : ℕ) → e < edges t → sourceField t e < 256

@@ -1,6 +1,6 @@
 -- Laws of `first`, `all`, `any`: which number a search finds, and what holds of the numbers before it. Assumes nothing.
 use Prim.Native.Nat.{ℕ, zero, suc, _<_, _≤_}
-use mathlib.Core.Path.{_≡_, sym, _∙_}
+use mathlib.Core.Path.{_≡_, refl, sym, _∙_}
 use mathlib.Core.Bool.{Bool, true, false, not, _||_}
 use mathlib.Core.Logic.{⊎-elim}
 use native.Mathlib.Nat.{le-refl, not-suc-le-zero, eq-or-lt-of-le, le-of-suc-le-suc}
@@ -122,6 +122,11 @@ any-same p q n same =
     same-test (any p n) (any q n)
     (λ t. let (l, h) = any-found p n t in any-intro q n _ l (sym (same _ l) ∙ h))
     (λ t. let (l, h) = any-found q n t in any-intro p n _ l (same _ l ∙ h))
+
+pub first-same : (p q : ℕ → Bool) (n : ℕ) → ((i : ℕ) → i < n → p i ≡ q i) → first p n ≡ first q n
+unfolding first
+first-same p q zero same = refl
+first-same p q (suc n) same = rw (first-same p q n (λ i l. same i (omega arith)), same n (omega arith))
 
 module _ (p : ℕ → Bool) where
   pub all-intro : (n : ℕ) → ((i : ℕ) → i < n → p i ≡ true) → all p n ≡ true

@@ -1,1 +1,1 @@
-mod LinesLaws
+pub mod LinesLaws

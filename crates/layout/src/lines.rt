@@ -1,17 +1,11 @@
-// Where a line stands, and question 4: whether each line is of its fields.
+// Where a line stands, and how far lines are right.
 ghost use mathlib.Core.Path.{_≡_};
-ghost use mathlib.Core.Bool.{not};
 ghost use Prim.Native.Nat.{_+_, _≤_};
 ghost use lib.ListN.{length};
-ghost use Rattle.law.specs.Bounded.{first};
-ghost use Rattle.job.specs.Questions.{formedLine};
-ghost use Rattle.job.specs.Leaves.{Fits};
 ghost use Rattle.job.specs.Read.{lineStart, lineLength};
-ghost use Rattle.layout.specs.Lines.{fieldsIn, startOf};
+ghost use Rattle.layout.specs.Lines.{fieldsIn, startOf, rightAfter};
 use crate::head::head;
-use job::reading::Header;
 use job::reading::Reading;
-use text::field::is_formed;
 
 // How many fields line `number` has, where `pairs` lines behind line 1 have two: a state's or an edge's.
 fn fields_in(pairs: usize, number: usize) -> usize
@@ -69,19 +63,16 @@ pub fn line_part(text: &[u8], number: usize) -> Part
     }
 }
 
-// Question 4, of the lines behind line 1: the index of the first of them that is not of its fields, or how many they are.
-pub fn malformed_line(text: &[u8], h: Header) -> usize
-    requires { ⌜ Fits (now text) h ⌝ }
-    ensures { λ r. ⌜ r ≡ first (λ i. not (formedLine (now (text .entry)) i)) (h .states + h .edges + h .subformulas) ⌝ }
+// How many of some lines are right before the first that is not, with one line more: `right` of `lines` so far, and whether the next one is right.
+pub fn right_after(right: usize, lines: usize, ok: bool) -> usize
+    requires { ⌜ right ≤ 2304 ⌝ }
+    ensures { λ r. ⌜ r ≡ rightAfter right lines ok ⌝ }
 {
-    let pairs = h.states + h.edges;
-    let count = pairs + h.subformulas;
-    for i in 0..count {
-        let at = line_start(pairs, 2 + i);
-        let fields = fields_in(pairs, 2 + i);
-        if !is_formed(text, at, fields) {
-            return i;
-        }
+    if right != lines {
+        return right;
     }
-    count
+    if !ok {
+        return right;
+    }
+    right + 1
 }

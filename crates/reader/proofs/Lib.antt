@@ -1,1 +1,3 @@
+mod WordLaws
+mod LineLaws
 mod ReaderLaws

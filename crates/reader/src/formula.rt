@@ -1,32 +1,52 @@
-// Question 8: the subformula lines.
+// The subformula lines: question 8.
 ghost use mathlib.Core.Path.{_≡_};
-ghost use mathlib.Core.Bool.{not};
-ghost use Rattle.law.specs.Bounded.{first};
-ghost use Rattle.job.specs.Questions.{formulaOk};
+ghost use lib.ListN.{length};
+ghost use Rattle.job.specs.Formula.{parsed, isFormula};
 ghost use Rattle.job.specs.Leaves.{Fits};
+ghost use Rattle.image.specs.Image.{WORDS};
+ghost use Rattle.reader.specs.NumbersRead.{FormulasRead};
+use crate::lines::Lines;
+use crate::lines::lay;
+use image::image::Image;
+use image::image::KINDS;
+use image::image::LEFTS;
+use image::image::RIGHTS;
 use job::reading::Header;
 use job::subformula::Parsed;
 use job::subformula::parse;
-use text::field::number;
+use layout::lines::right_after;
+use text::fields::Triple;
+use text::fields::read_triple;
 
-// The first subformula whose line is not right, or how many subformulas there are.
-pub(crate) fn bad_formula(text: &[u8], h: Header) -> usize
+fn is_subformula(k: usize, kind: usize, a: usize, b: usize) -> bool
+    ensures { λ r. ⌜ r ≡ isFormula (parsed k kind a b) ⌝ }
+{
+    match parse(k, kind, a, b) {
+        Parsed::Formula(_) => true,
+        Parsed::Malformed => false,
+    }
+}
+
+pub(crate) fn read_formulas(text: &[u8], h: Header, m: &mut Image) -> Lines
     requires { ⌜ Fits (now text) h ⌝ }
-    ensures { λ r. ⌜ r ≡ first (λ k. not (formulaOk (now (text .entry)) k)) (h .subformulas) ⌝ }
+    requires { ⌜ length (now m) ≡ WORDS ⌝ }
+    ensures { λ r. ⌜ FormulasRead (now (text .entry)) h (now (m .entry)) (now (m .exit)) r ⌝ }
 {
     let behind = 21 + 11 * (h.states + h.edges);
     let subformulas = h.subformulas;
+    let mut right = 0;
     for k in 0..subformulas {
-        let at = behind + 16 * k;
-        let line = parse(
-            k,
-            number(text, at),
-            number(text, at + 5),
-            number(text, at + 10),
-        );
-        let Parsed::Formula(_) = line else {
-            return k;
+        let line = read_triple(text, behind + 16 * k);
+        let Triple::Numbers(kind, a, b) = line else {
+            return Lines { formed: k, right };
         };
+        lay(m, KINDS + k, kind);
+        lay(m, LEFTS + k, a);
+        lay(m, RIGHTS + k, b);
+        right = right_after(right, k, is_subformula(k, kind, a, b));
     }
-    subformulas
+    Lines {
+        formed: subformulas,
+        right,
+    }
 }

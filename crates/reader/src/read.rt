@@ -1,42 +1,75 @@
 // Questions 1 to 8 in order.
 ghost use mathlib.Core.Path.{_≡_};
+ghost use lib.ListN.{length};
+ghost use Rattle.job.specs.Question.{answered};
 ghost use Rattle.job.specs.Read.{readTold, readAnswer};
-use crate::edges::bad_edge;
-use crate::edges::state_without_edge;
-use crate::formula::bad_formula;
-use crate::states::bad_state;
+ghost use Rattle.image.specs.Image.{WORDS};
+ghost use Rattle.reader.specs.NumbersRead.{Askable, linesAsked, headerOf, NumbersRead};
+use crate::edges::read_edges;
+use crate::formula::read_formulas;
+use crate::lines::lay_head;
+use crate::states::read_states;
+use edge_pass::Kept;
+use edge_pass::bare_state;
+use image::image::Image;
+use job::reading::Header;
 use job::reading::Reading;
 use layout::head::head;
-use layout::lines::malformed_line;
 use layout::refusal::refuse;
 
-pub fn read(text: &[u8]) -> Reading
-    ensures { λ r. ⌜ readTold r ≡ readAnswer (now (text .entry)) ⌝ }
+// Questions 5 to 8, where every line is well-formed: how many state lines and subformula lines are right before the first that is not, and what the
+// pass over the edge lines keeps.
+fn ask_lines(h: Header, states: usize, edges: Kept, subformulas: usize) -> Reading
+    requires { ⌜ Askable h states edges subformulas ⌝ }
+    ensures { λ r. ⌜ readTold r ≡ answered (linesAsked h states edges subformulas) 4 (headerOf h) ⌝ }
+{
+    if states != h.states {
+        return refuse(5, 2 + states);
+    }
+    let order = edges.order;
+    if order.right != order.lines {
+        return refuse(6, 2 + order.states + order.right);
+    }
+    let bare = bare_state(&edges.starts, order.states);
+    if bare != order.states {
+        return refuse(7, 2 + bare);
+    }
+    if subformulas != h.subformulas {
+        return refuse(8, 2 + h.states + h.edges + subformulas);
+    }
+    Reading::Accepted(h)
+}
+
+// The reader's answer; where it accepts, the text's numbers are in the array that is lent.
+pub fn read_numbers(text: &[u8], m: &mut Image) -> Reading
+    requires { ⌜ length (now m) ≡ WORDS ⌝ }
+    ensures { λ r. ⌜ NumbersRead (now (text .entry)) (now (m .entry)) (now (m .exit)) r ⌝ }
 {
     let head = head(text);
     let Reading::Accepted(h) = head else {
         return head;
     };
-    let pairs = h.states + h.edges;
-    let bad = malformed_line(text, h);
-    if bad < pairs + h.subformulas {
-        return refuse(4, 2 + bad);
+    lay_head(m, h);
+    let states = read_states(text, h, m);
+    if states.formed != h.states {
+        return refuse(4, 2 + states.formed);
     }
-    let bad = bad_state(text, h);
-    if bad < h.states {
-        return refuse(5, 2 + bad);
+    let edges = read_edges(text, h, m);
+    let order = edges.order;
+    if order.lines != h.edges {
+        return refuse(4, 2 + (h.states + order.lines));
     }
-    let bad = bad_edge(text, h);
-    if bad < h.edges {
-        return refuse(6, 2 + h.states + bad);
+    let formulas = read_formulas(text, h, m);
+    if formulas.formed != h.subformulas {
+        return refuse(4, 2 + (h.states + h.edges + formulas.formed));
     }
-    let bad = state_without_edge(text, h);
-    if bad < h.states {
-        return refuse(7, 2 + bad);
-    }
-    let bad = bad_formula(text, h);
-    if bad < h.subformulas {
-        return refuse(8, 2 + pairs + bad);
-    }
-    Reading::Accepted(h)
+    ask_lines(h, states.right, edges, formulas.right)
+}
+
+// The reader's answer alone.
+pub fn read(text: &[u8]) -> Reading
+    ensures { λ r. ⌜ readTold r ≡ readAnswer (now (text .entry)) ⌝ }
+{
+    let mut m = [0u16; 13165];
+    read_numbers(text, &mut m)
 }

@@ -1,27 +1,46 @@
-// Question 5: the state lines.
+// The state lines: question 5.
 ghost use mathlib.Core.Path.{_≡_};
-ghost use mathlib.Core.Bool.{not};
-ghost use Rattle.law.specs.Bounded.{first};
-ghost use Rattle.job.specs.Questions.{stateOk};
+ghost use mathlib.Core.Bool.{_&&_};
+ghost use lib.Dec.{ltb, leb};
+ghost use lib.ListN.{length};
 ghost use Rattle.job.specs.Leaves.{Fits};
+ghost use Rattle.image.specs.Image.{WORDS};
+ghost use Rattle.reader.specs.NumbersRead.{StatesRead};
+use crate::lines::Lines;
+use crate::lines::lay;
+use image::image::Image;
+use image::image::LABELS;
+use image::image::OWNERS;
 use job::reading::Header;
-use text::field::number;
+use layout::lines::right_after;
+use text::fields::Pair;
+use text::fields::read_pair;
 
-// The first state whose line is not right, or how many states there are.
-pub(crate) fn bad_state(text: &[u8], h: Header) -> usize
+fn is_state(nodes: usize, owner: usize, label: usize) -> bool
+    ensures { λ r. ⌜ r ≡ (ltb owner nodes && leb label 65535) ⌝ }
+{
+    owner < nodes && label <= 65535
+}
+
+pub(crate) fn read_states(text: &[u8], h: Header, m: &mut Image) -> Lines
     requires { ⌜ Fits (now text) h ⌝ }
-    ensures { λ r. ⌜ r ≡ first (λ s. not (stateOk (now (text .entry)) s)) (h .states) ⌝ }
+    requires { ⌜ length (now m) ≡ WORDS ⌝ }
+    ensures { λ r. ⌜ StatesRead (now (text .entry)) h (now (m .entry)) (now (m .exit)) r ⌝ }
 {
     let states = h.states;
     let nodes = h.nodes;
+    let mut right = 0;
     for s in 0..states {
-        let at = 21 + 11 * s;
-        if nodes <= number(text, at) {
-            return s;
-        }
-        if 65535 < number(text, at + 5) {
-            return s;
-        }
+        let line = read_pair(text, 21 + 11 * s);
+        let Pair::Numbers(owner, label) = line else {
+            return Lines { formed: s, right };
+        };
+        lay(m, OWNERS + s, owner);
+        lay(m, LABELS + s, label);
+        right = right_after(right, s, is_state(nodes, owner, label));
     }
-    states
+    Lines {
+        formed: states,
+        right,
+    }
 }

@@ -1,3 +1,4 @@
 pub mod Field
 pub mod Decimal
 pub mod Leaves
+pub mod Fields
