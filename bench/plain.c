@@ -1,13 +1,13 @@
 // A plain, unverified program that prints what verdict prints: what the proved one is measured against. It reads the same
 // texts, keeps the same table of cells and does the same rounds: sets by worklists, a (node, subformula) pair worked only
 // when one of its own or its operands' cells was filled since, copying only where a cell was filled since.
+#include "plain_reader.h"
+
 #include <stdbool.h>
-#include <stdint.h>
 #include <stdio.h>
 #include <string.h>
 #include <unistd.h>
 
-enum { ATOM = 1, NOT, AND, AX, EX, AU, EU, EG, AG };
 enum { OUTSIDE, BORDER, OWNED };
 enum { FALSE, TRUE, EMPTY };
 enum { MAX_TEXT = 25878 };
@@ -15,82 +15,10 @@ enum { MAX_TEXT = 25878 };
 static uint8_t text[MAX_TEXT];
 static int length;
 
-static int states, edges, subformulas, nodes;
-static uint8_t owner[256];
-static uint16_t label[256];
-// edges by source, as runs, and by target, as chains of edge numbers plus 1
-static uint16_t first[257], head[256], next[2048];
-static uint8_t source[2048], target[2048];
-static int kind[32], left[32], right[32];
-
 static uint8_t place[8][256];
 static uint8_t table[65536];
 // column filled since its node was stepped; subformula filled since cells were copied
 static bool stale[8][32], news[32];
-
-// The field of five columns at `at`, or -1 if it is not well-formed.
-static int field(int at) {
-    int i = 0, n = 0;
-    while (i < 5 && text[at + i] == ' ') i++;
-    if (i == 5 || (i < 4 && text[at + i] == '0')) return -1;
-    for (; i < 5; i++) {
-        if (text[at + i] < '0' || text[at + i] > '9') return -1;
-        n = 10 * n + (text[at + i] - '0');
-    }
-    return n;
-}
-
-static bool formed(int at, int fields) {
-    for (int i = 0; i < fields; i++)
-        if (field(at + 5 * i) < 0) return false;
-    return text[at + 5 * fields] == '\n';
-}
-
-static bool subformula_ok(int k, int kind, int a, int b) {
-    switch (kind) {
-    case ATOM: return a <= 15 && b == 0;
-    case NOT: case AX: case EX: case EG: case AG: return a < k && b == 0;
-    case AND: case AU: case EU: return a < k && b < k;
-    default: return false;
-    }
-}
-
-// Questions 1 to 8. Returns the number of the first no, or 0, and sets *line.
-static int read_job(int *line) {
-    *line = 1;
-    if (length < 21 || !formed(0, 4)) return 1;
-    states = field(0), edges = field(5), subformulas = field(10), nodes = field(15);
-    if (states < 1 || states > 256 || edges < 1 || edges > 2048 || subformulas < 1 || subformulas > 32 || nodes < 1 || nodes > 8) return 2;
-    if (length != 21 + 11 * states + 11 * edges + 16 * subformulas) return 3;
-    int pairs = states + edges, behind = 21 + 11 * pairs;
-    for (int i = 0; i < pairs; i++)
-        if (!formed(21 + 11 * i, 2)) return *line = 2 + i, 4;
-    for (int k = 0; k < subformulas; k++)
-        if (!formed(behind + 16 * k, 3)) return *line = 2 + pairs + k, 4;
-    for (int s = 0; s < states; s++) {
-        int o = field(21 + 11 * s), l = field(21 + 11 * s + 5);
-        if (o >= nodes || l > 65535) return *line = 2 + s, 5;
-        owner[s] = o, label[s] = l;
-    }
-    int before = -1;
-    for (int e = 0; e < edges; e++) {
-        int at = 21 + 11 * (states + e), from = field(at), to = field(at + 5);
-        if (from >= states || to >= states || from * 256 + to <= before) return *line = 2 + states + e, 6;
-        before = from * 256 + to;
-        source[e] = from, target[e] = to;
-        first[from + 1] = e + 1;
-        next[e] = head[to], head[to] = e + 1;
-    }
-    for (int s = 0; s < states; s++)
-        if (first[s + 1] == 0) return *line = 2 + s, 7;
-    for (int k = 0; k < subformulas; k++) {
-        int at = behind + 16 * k;
-        kind[k] = field(at), left[k] = field(at + 5), right[k] = field(at + 10);
-        if (!subformula_ok(k, kind[k], left[k], right[k])) return *line = 2 + pairs + k, 8;
-    }
-    *line = 0;
-    return 0;
-}
 
 static void cut(void) {
     for (int e = 0; e < edges; e++) place[owner[source[e]]][target[e]] = BORDER;
@@ -236,7 +164,7 @@ static int close_open(void) {
 int main(void) {
     ssize_t got;
     while (length < MAX_TEXT && (got = read(0, text + length, MAX_TEXT - length)) > 0) length += got;
-    int line, number = read_job(&line), rounds = 0, cells = 0, filled;
+    int line, number = read_job(text, length, &line), rounds = 0, cells = 0, filled;
     if (number) {
         printf("%5d%5d%5d%5d%5d\n", number, line, 0, 0, 0);
         return 0;
