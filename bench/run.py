@@ -1,4 +1,5 @@
-"""The programs `verdict` and `rule`, each beside a plain, unverified C program.
+"""The programs `verdict` and `rule` and the library's `selahmur_read`, each beside
+a plain, unverified C program.
 
     run.py [PROGRAM ...] [--runs N] [--quick]
 
@@ -12,7 +13,12 @@ as large.  For rule text, instructions are those above what an empty line takes,
 since starting the process takes more than reading most texts; the last column
 has those of `rule` for a byte.
 
-A PROGRAM is told by the name of its file; without any, both of target/bin run.
+For reading alone, the library `libselahmur.a` is the PROGRAM.  A row has what one
+call of `selahmur_read` takes, beside the reader of the plain program: the cost of
+many readings in one process, above that of one, for each of them.
+
+A PROGRAM is told by the name of its file; without any, all of target run: both of
+target/bin, and what `rt staticlib selahmur` writes.
 """
 
 from __future__ import annotations
@@ -26,12 +32,14 @@ import subprocess
 import sys
 import tempfile
 import time
+from dataclasses import replace
 from typing import Iterator
 
 ROOT = pathlib.Path(__file__).parents[1]
 sys.path.insert(0, str(ROOT / "tests"))
 
 import checker  # noqa: E402
+import damaged  # noqa: E402
 import generate  # noqa: E402
 import rule_texts  # noqa: E402
 
@@ -93,20 +101,54 @@ def rules() -> Iterator[tuple[str, bytes]]:
     yield "514 bytes of nonsense", random.Random(1).randbytes(514)
 
 
-def run(program: str, text: pathlib.Path) -> tuple[bytes, float]:
-    """What the program prints, and its time."""
+def readings() -> Iterator[tuple[str, bytes]]:
+    """Jobs that are accepted, then those of full size that are refused: late,
+    early, and where no line by itself is wrong."""
+    rng = random.Random(1)
+    job = generate.full(rng)
+    text, sizes = job.text(), checker.Sizes(*job.lines()[0])
+    first_edge = 2 + sizes.states
+    last_edge, last = first_edge + sizes.edges - 1, len(job.lines())
+    middle = generate.picture(rng, 64, 32, 8, exact=True)
+
+    def put(at: int, n: int, new: bytes) -> bytes:
+        return damaged.with_field(text, sizes, at, n, new)
+
+    yield "full size", text
+    edges = generate.scattered(rng, 64, 512)
+    yield "64 states, 512 edges", replace(middle, edges=edges).text()
+    yield "examples/menu.job", (ROOT / "examples/menu.job").read_bytes()
+    yield "last edge line malformed", put(last_edge, 1, b"    -")
+    yield "last line malformed", put(last, 2, b"    -")
+    yield "last edge to no state", put(last_edge, 1, b"  256")
+    yield "first edge to no state", put(first_edge, 1, b"  256")
+    edges = generate.scattered(rng, sizes.states - 1, sizes.edges)
+    yield "last state without an edge", replace(job, edges=edges).text()
+    yield "last line of no kind", put(last, 0, b"    0")
+
+
+def compiled(program: str, source: str, *arguments: str) -> str:
+    """Have gcc make a program of a source here."""
+    command = ["gcc", "-O3", "-Wall", "-Wextra", "-I", str(ROOT / "include")]
+    made = [str(ROOT / "bench" / source), *arguments, "-o", program]
+    subprocess.run([*command, *made], check=True)
+    return program
+
+
+def run(command: list[str], text: pathlib.Path) -> tuple[bytes, float]:
+    """What the command prints, and its time."""
     with text.open("rb") as job:
         began = time.perf_counter()
-        out = subprocess.run([program], stdin=job, stdout=subprocess.PIPE, check=True)
+        out = subprocess.run(command, stdin=job, stdout=subprocess.PIPE, check=True)
         return out.stdout, time.perf_counter() - began
 
 
-def instructions(program: str, text: pathlib.Path) -> int:
-    """How many instructions the program takes."""
-    command = ["valgrind", "--tool=callgrind", "--callgrind-out-file=/dev/null"]
+def instructions(command: list[str], text: pathlib.Path) -> int:
+    """How many instructions the command takes."""
+    counting = ["valgrind", "--tool=callgrind", "--callgrind-out-file=/dev/null"]
     with text.open("rb") as job:
         said = subprocess.run(
-            [*command, program],
+            [*counting, *command],
             stdin=job,
             stdout=subprocess.DEVNULL,
             stderr=subprocess.PIPE,
@@ -118,6 +160,11 @@ def instructions(program: str, text: pathlib.Path) -> int:
     return int(found[1])
 
 
+def above(costs: list[float], start: list[float]) -> list[float]:
+    """The costs of both programs above others."""
+    return [cost - least for cost, least in zip(costs, start)]
+
+
 def compared(costs: list[float]) -> list[str]:
     """The plain program's cost, the other's, and their ratio."""
     ratio = f"{costs[1] / costs[0]:.2f}" if costs[0] > 0 else ""
@@ -127,19 +174,22 @@ def compared(costs: list[float]) -> list[str]:
 class Table:
     """A program beside a plain one: the rows, printed as they come."""
 
+    program: str  # where rt writes it
     source: str
     columns: list[str]
     last: str
+    clock = "ms", 1e3
     unit: tuple[str, float]
 
     def __init__(self, program: str, folder: str, runs: int, quick: bool) -> None:
-        plain = f"{folder}/plain"
-        source = str(ROOT / "bench" / self.source)
-        subprocess.run(["gcc", "-O3", "-Wall", "-Wextra", "-o", plain, source], check=True)
-        self.programs = [plain, program]
+        self.programs = self.made(program, folder)
         self.text = pathlib.Path(folder, "text")
         self.runs = runs
         self.quick = quick
+
+    def made(self, program: str, folder: str) -> list[str]:
+        """The plain program, and the one beside it."""
+        return [compiled(f"{folder}/plain", self.source), program]
 
     def texts(self) -> Iterator[tuple[str, bytes]]:
         """The texts, each with the name of its family."""
@@ -161,26 +211,44 @@ class Table:
     def put_head(self) -> None:
         """Print the first two rows."""
         names = ["plain", pathlib.Path(self.programs[1]).name]
-        head = [*self.columns, *(f"{name} ms" for name in names), "ratio"]
+        clock = self.clock[0]
+        head = [*self.columns, *(f"{name} {clock}" for name in names), "ratio"]
         if not self.quick:
             head += [*(f"{name} {self.unit[0]} instr." for name in names), "ratio"]
         self.put([*head, self.last])
         self.put(["---"] * (len(head) + 1))
 
-    def counted(self, text: bytes) -> list[float]:
-        """The instructions of both programs."""
+    def commands(self, text: bytes, arguments: tuple[str, ...]) -> list[list[str]]:
+        """How both programs are started, once the text is in its place."""
         self.text.write_bytes(text)
-        return [instructions(p, self.text) / self.unit[1] for p in self.programs]
+        return [[program, *arguments] for program in self.programs]
+
+    def best(self, text: bytes, *arguments: str) -> tuple[set[bytes], list[float]]:
+        """What is printed, and the best time of both programs."""
+        commands = self.commands(text, arguments)
+        taken = [[run(c, self.text) for c in commands] for _ in range(self.runs)]
+        times = [self.clock[1] * min(pair[i][1] for pair in taken) for i in range(2)]
+        return {out for pair in taken for out, _ in pair}, times
+
+    def total(self, text: bytes, *arguments: str) -> list[float]:
+        """The instructions of both programs."""
+        commands = self.commands(text, arguments)
+        return [instructions(c, self.text) / self.unit[1] for c in commands]
+
+    def timed(self, text: bytes) -> tuple[set[bytes], list[float]]:
+        """What is printed, and the times of the row."""
+        return self.best(text)
+
+    def counted(self, text: bytes) -> list[float]:
+        """The instructions of the row."""
+        return self.total(text)
 
     def add(self, family: str, text: bytes) -> bool:
         """Run a text and print its row; False if the programs differ."""
-        self.text.write_bytes(text)
-        taken = [[run(p, self.text) for p in self.programs] for _ in range(self.runs)]
-        printed = {out for pair in taken for out, _ in pair}
+        printed, costs = self.timed(text)
         if len(printed) != 1:
             print(f"{family}, {len(text)} bytes: what is printed differs: {printed}")
             return False
-        costs = [1000 * min(pair[i][1] for pair in taken) for i in range(2)]
         cells = [family, *self.told(text, printed.pop()), *compared(costs)]
         if not self.quick:
             costs = self.counted(text)
@@ -197,6 +265,7 @@ class Table:
 class Jobs(Table):
     """The program `verdict`."""
 
+    program = "target/bin/verdict"
     source = "plain.c"
     columns = ["job", "states", "rounds"]
     last = "growth"
@@ -221,43 +290,81 @@ class Jobs(Table):
         return grown
 
 
-class Rules(Table):
-    """The program `rule`."""
+class Texts(Table):
+    """What is measured by the bytes of a text, and prints two numbers first."""
 
-    source = "plain_rule.c"
-    columns = ["rule text", "bytes", "refusal", "lines"]
     last = "a byte"
     unit = "k", 1e3
 
-    @functools.cached_property
-    def start(self) -> list[float]:
-        """The instructions for an empty line."""
-        return super().counted(b"\n")
-
-    def texts(self) -> Iterator[tuple[str, bytes]]:
-        return rules()
-
     def told(self, text: bytes, printed: bytes) -> list[str]:
-        """The bytes, the number and the lines."""
+        """The bytes and the two numbers."""
         return [str(len(text)), str(int(printed[:5])), str(int(printed[5:10]))]
-
-    def counted(self, text: bytes) -> list[float]:
-        """The instructions above these."""
-        return [c - start for c, start in zip(super().counted(text), self.start)]
 
     def closing(self, family: str, text: bytes, cost: float) -> str:
         """The instructions for a byte."""
         return "" if self.quick else f"{1000 * cost / len(text):.0f}"
 
 
-TABLES = {"verdict": Jobs, "rule": Rules}
+class Rules(Texts):
+    """The program `rule`."""
+
+    program = "target/bin/rule"
+    source = "plain_rule.c"
+    columns = ["rule text", "bytes", "refusal", "lines"]
+
+    @functools.cached_property
+    def start(self) -> list[float]:
+        """The instructions for an empty line."""
+        return self.total(b"\n")
+
+    def texts(self) -> Iterator[tuple[str, bytes]]:
+        return rules()
+
+    def counted(self, text: bytes) -> list[float]:
+        """The instructions above these."""
+        return above(self.total(text), self.start)
+
+
+class Reading(Texts):
+    """The library's `selahmur_read`."""
+
+    program = "target/staticlib/libselahmur.a"
+    source = "reading.c"
+    columns = ["reading", "bytes", "refusal", "line"]
+    clock = "µs", 1e6
+    timed_bytes = 20_000_000  # enough readings that starting a process is no matter
+    counted_readings = 10
+
+    def made(self, program: str, folder: str) -> list[str]:
+        """The plain reader and the library's, each below the same driver."""
+        plain = compiled(f"{folder}/plain", self.source, "-DPLAIN")
+        return [plain, compiled(f"{folder}/selahmur_read", self.source, program)]
+
+    def texts(self) -> Iterator[tuple[str, bytes]]:
+        return readings()
+
+    def timed(self, text: bytes) -> tuple[set[bytes], list[float]]:
+        """The time of one reading, without the start of the process."""
+        readings = self.timed_bytes // len(text)
+        printed, once = self.best(text, "1")
+        again, more = self.best(text, str(1 + readings))
+        return printed | again, [cost / readings for cost in above(more, once)]
+
+    def counted(self, text: bytes) -> list[float]:
+        """The instructions of one reading."""
+        readings = self.counted_readings
+        once, more = self.total(text, "1"), self.total(text, str(1 + readings))
+        return [cost / readings for cost in above(more, once)]
+
+
+TABLES = {pathlib.Path(table.program).name: table for table in (Jobs, Rules, Reading)}
 """By the program's name."""
 
 
 def main() -> int:
     """The program."""
     options = argparse.ArgumentParser(description=__doc__)
-    here = [str(ROOT / "target/bin" / name) for name in TABLES]
+    here = [str(ROOT / table.program) for table in TABLES.values()]
     options.add_argument("programs", nargs="*", default=here)
     options.add_argument("--runs", type=int, default=5)
     options.add_argument("--quick", action="store_true")
@@ -265,7 +372,7 @@ def main() -> int:
     for program in chosen.programs:
         name = pathlib.Path(program).name
         if name not in TABLES:
-            options.error(f"{program} is neither of {', '.join(TABLES)}")
+            options.error(f"{program} is none of {', '.join(TABLES)}")
         with tempfile.TemporaryDirectory() as folder:
             if not TABLES[name](program, folder, chosen.runs, chosen.quick).run():
                 return 1
