@@ -16,8 +16,8 @@ the step that they would have spared.  Others start from any table.  In all of
 them come damaged texts, other jobs' texts, tables of a wrong length or with
 wrong bytes, and numbers out of range, and rule texts, in the grammar and not.
 Each of COUNT draws is some lists of small jobs and some rules; the jobs at the
-limits, every rule text of up to four tokens and the cases on which compare.py
-has the definitions computed come besides.
+limits, texts with several faults at once, every rule text of up to four tokens
+and the cases on which compare.py has the definitions computed come besides.
 
 It counts too, and fails where a call is never accepted, where a number that a
 call can refuse with never comes, or where no message or no close is ever about
@@ -32,6 +32,7 @@ import argparse
 import base64
 import collections
 import ctypes
+import itertools
 import json
 import mmap
 import os
@@ -50,6 +51,7 @@ from typing import Iterator
 
 import checker
 import damaged
+import faults
 import generate
 import rule_texts
 import rules
@@ -66,6 +68,9 @@ SECONDS = 60
 
 SHOWN = 3
 """How many differences are printed in full, those with the shortest texts."""
+
+FAULTY = 60
+"""How many texts with several faults, and edge lists, are made of a large job."""
 
 NUMBERS = {"read": 0, "line": 1, **tables.NUMBERS, "rule": 0}
 """How many numbers each call takes."""
@@ -451,6 +456,8 @@ class Play:
             self.bad = self.rng.sample(found, min(12, len(found)))
             self.bad += damaged.flips(self.rng, self.text, 4)
             self.bad += damaged.scribbles(self.rng, self.picture, 4)
+            self.bad.append(faults.some_faults(self.rng, self.picture).text)
+            self.bad.append(faults.some_edge_list(self.rng, self.picture).text())
             self.bad += damaged.noise(self.rng, 1)
             self.bad += [b"", self.text + b"\n", self.text + bytes(2**16)]
         return self.rng.choice(self.bad)
@@ -627,6 +634,20 @@ class Play:
             for other in (tables.wrong_length_table, tables.bad_table):
                 self.aside(name, other(self.rng, self.job), *self.numbers(name))
 
+    def faulty(self, most: int) -> None:
+        """Texts of the job with several faults at once, and edge lists of it with
+        several wrong lines, so many of either at most: read, and now and then in
+        another call."""
+        found = faults.some(self.rng, faults.several(self.rng, self.picture), most)
+        texts = [damage.text for damage in found]
+        lists = faults.some(self.rng, faults.edge_lists(self.rng, self.picture), most)
+        texts += [spoilt.text() for spoilt in lists]
+        for text in texts:
+            read_text(self.comparison, text)
+            if self.rng.randrange(8) == 0:
+                name = self.rng.choice([*tables.NUMBERS])
+                self.call(name, *self.numbers(name), text=text)
+
     # ---- two jobs, one table
 
     def recut(self, count: int) -> None:
@@ -745,6 +766,25 @@ def computed_cases(comparison: Comparison) -> None:
             table = call(name, table, numbers)
 
 
+def faulty_texts(comparison: Comparison) -> None:
+    """Texts with several faults at once, and edge lists with several wrong lines:
+    all that are made of small jobs, and every short list."""
+    for job in faults.shapes(comparison.rng):
+        Play(comparison, job).faulty(FAULTY if len(job.edges) > 200 else 1000)
+    for spoilt in itertools.chain(
+        faults.short_lists(),
+        faults.every_list(2, 2, (0, 1, 2, *faults.FAR)),
+        faults.every_list(2, 4, (0, 1, 2)),
+        faults.every_list(3, 3, (0, 1, 2, 3)),
+    ):
+        read_text(comparison, spoilt.text())
+
+
+def read_text(comparison: Comparison, text: bytes) -> None:
+    """The call read, with room for the whole answer."""
+    comparison.compare(Case("read", text, b"", (), comparison.widths["read"]))
+
+
 def small_lists(comparison: Comparison, i: int) -> None:
     """The i-th draw of small jobs."""
     rng = comparison.rng
@@ -770,6 +810,7 @@ def lists(comparison: Comparison, count: int) -> None:
     """All lists: small jobs and rules, and now and then the large ones."""
     told_rules(comparison)
     computed_cases(comparison)
+    faulty_texts(comparison)
     for i in range(count):
         if i % 100 == 0:
             large_lists(comparison)

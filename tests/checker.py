@@ -221,6 +221,7 @@ def parse(text: bytes) -> Job:
     return Job(size, owners, labels, successors, rules)
 
 
+@lru_cache(maxsize=64)
 def read(text: bytes) -> tuple[int, int, int, int, int, int]:
     """The call read: number, line, S, E, K, N."""
     try:

@@ -30,6 +30,9 @@ BAD_FIELDS = [
 ]  # fmt: skip
 """Fields that are not well-formed."""
 
+LARGEST = checker.Sizes(256, 2048, 32, 8)
+"""The numbers of line 1 at their greatest."""
+
 
 def with_field(text: bytes, sizes: checker.Sizes, at: int, n: int, new: bytes) -> bytes:
     """Field n of line `at` replaced."""
@@ -84,7 +87,7 @@ def damages(rng: random.Random, job: Picture) -> Iterator[Damage]:
     yield Damage("noise", 1, 1, noise[:20] + b"!" + noise[21:])
 
     # 2
-    for n, most in enumerate((256, 2048, 32, 8)):
+    for n, most in enumerate(LARGEST):
         for value in (0, most + 1, 99_999):
             yield put("sizes", 2, 1, n, value)
 
@@ -94,7 +97,7 @@ def damages(rng: random.Random, job: Picture) -> Iterator[Damage]:
     yield Damage("cut", 3, 1, text[: rng.randrange(21, len(text))])
     for more in (b"\n", b"0", b"    0    0\n", bytes(30_000)):
         yield Damage(f"{len(more)} more", 3, 1, text + more)
-    for n, most in enumerate((256, 2048, 32)):
+    for n, most in enumerate(LARGEST[:3]):
         for value in (sizes[n] - 1, sizes[n] + 1):
             if 1 <= value <= most:
                 yield put("other size", 3, 1, n, value)
@@ -147,26 +150,6 @@ def damages(rng: random.Random, job: Picture) -> Iterator[Damage]:
             lines = job.lines()
             lines[at - 1] = line
             yield Damage(f"rule {line} at {k}", 8, at, written(lines))
-
-    # The order of the questions, and of the lines of one question.
-    worse = with_field(text, sizes, last, 2, b"    -")
-    yield Damage("5 and 4", 4, last, with_field(worse, sizes, 2, 0, b"%5d" % nodes))
-    worse = with_field(text, sizes, last, 0, b"    0")
-    yield Damage("8 and 6", 6, first_edge, with_field(worse, sizes, first_edge, 1, b"  999"))
-    yield Damage("8 and 5", 5, 2, with_field(worse, sizes, 2, 1, b"65536"))
-    worse = with_field(text, sizes, 2, 1, b"99999")
-    yield Damage("5 and 6", 5, 2, with_field(worse, sizes, first_rule - 1, 0, b"99999"))
-    yield Damage("5 and 5", 5, 2, with_field(worse, sizes, 1 + states, 0, b"99999"))
-    worse = with_field(text, sizes, first_edge, 0, b"  300")
-    yield Damage("6 and 6", 6, first_edge, with_field(worse, sizes, first_rule - 1, 1, b"  300"))
-    if states >= 2:
-        lines = replace(job, edges=[e for e in job.edges if e[0] != states - 1]).lines()
-        lines[-1] = (0, 0, 0)
-        yield Damage("8 and 7", 7, 1 + states, written(lines))
-        lines = replace(job, edges=[e for e in job.edges if e[0] != 0]).lines()
-        at = len(lines) - formulas
-        lines[at - 1] = (states - 1, states)
-        yield Damage("7 and 6", 6, at, written(lines))
 
 
 def bad_rules(rng: random.Random, k: int) -> list[Line]:

@@ -11,7 +11,8 @@ no job is accepted, none refused under one of 1 to 8, or where rules of some kin
 have not come out both ways.
 
 Always run are the examples, the printed cases, every kind over a small structure,
-the limits, the families that take most rounds, and every damage of a few jobs.
+the limits, the families that take most rounds, every damage of a few jobs, and
+texts with several faults at once.
 To these come COUNT draws of four jobs each, with damages and cuttings of them.
 """
 
@@ -33,6 +34,7 @@ from typing import Iterable, Iterator
 
 import checker
 import damaged
+import faults
 import generate
 
 EXAMPLES = pathlib.Path(__file__).parents[1] / "examples"
@@ -44,6 +46,9 @@ HUNG = f"no end in {SECONDS} seconds"
 
 PLAIN = 2_000
 """Tables of up to so many cells are also played without any shortcut."""
+
+FAULTY = 60
+"""How many texts with several faults, and edge lists, are made of each job."""
 
 SHOWN = 3
 """How many differences are printed in full, those with the shortest texts."""
@@ -115,6 +120,12 @@ def valid_cases(rng: random.Random) -> Iterator[Case]:
                 yield Case(name, cut.text(), structure=name)
 
 
+def damage_case(damage: damaged.Damage) -> Case:
+    """A damaged text, which comes with its line."""
+    told = generate.written_line((damage.number, damage.line, 0, 0, 0))
+    return Case(f"damage: {damage.name}, line {damage.line}", damage.text, told)
+
+
 def damaged_cases(rng: random.Random) -> Iterator[Case]:
     """Every damage of jobs of four sizes, a job cut short at every byte and with
     every bit turned over, texts longer than the program reads, and noise."""
@@ -126,9 +137,7 @@ def damaged_cases(rng: random.Random) -> Iterator[Case]:
         generate.full(rng),
     )
     found = [damage for job in sizes for damage in damaged.damages(rng, job)]
-    for damage in [*found, *damaged.malformed(rng, small)]:
-        told = generate.written_line((damage.number, damage.line, 0, 0, 0))
-        yield Case(f"damage: {damage.name}, line {damage.line}", damage.text, told)
+    yield from map(damage_case, [*found, *damaged.malformed(rng, small)])
     text = small.text()
     for length in range(len(text)):
         yield Case(f"cut to {length} bytes", text[:length])
@@ -143,6 +152,18 @@ def damaged_cases(rng: random.Random) -> Iterator[Case]:
         yield Case(f"noise {i}", text)
 
 
+def faulty_cases(rng: random.Random) -> Iterator[Case]:
+    """Texts with several faults at once, and edge lists with several wrong lines:
+    calls.py has more of them read."""
+    for job in faults.shapes(rng):
+        found = faults.several(rng, job)
+        yield from map(damage_case, faults.some(rng, found, FAULTY))
+        for spoilt in faults.some(rng, faults.edge_lists(rng, job), FAULTY):
+            yield Case(f"edge list of {job.lines()[0]}", spoilt.text())
+    for spoilt in faults.some(rng, faults.short_lists(), 4 * FAULTY):
+        yield Case("short edge list", spoilt.text())
+
+
 def drawn_cases(rng: random.Random, count: int) -> Iterator[Case]:
     """Small jobs, as they are and damaged, and cuttings of larger ones."""
     for i in range(count):
@@ -152,6 +173,8 @@ def drawn_cases(rng: random.Random, count: int) -> Iterator[Case]:
                 yield Case(f"flipped {i}", text)
             for text in damaged.scribbles(rng, job, 1):
                 yield Case(f"scribbled {i}", text)
+            yield damage_case(faults.some_faults(rng, job))
+            yield Case(f"edge list {i}", faults.some_edge_list(rng, job).text())
         larger = [generate.tangled(rng, 20, 32, 8), generate.picture(rng, 40, 20, 8)]
         if i % 10 == 0:
             larger.append(generate.picture(rng, 256, 32, 8))
@@ -365,6 +388,7 @@ def main() -> int:
         named_cases(),
         valid_cases(rng),
         damaged_cases(rng),
+        faulty_cases(rng),
         drawn_cases(rng, chosen.count),
     )
     return Verdicts(chosen.program).run(cases)

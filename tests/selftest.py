@@ -26,6 +26,7 @@ import rules
 from checker import AG, ALL_ALONG, AND, ATOM, AU, AX, EG, EU, EX, NOT, SETS, UNTILS
 from checker import EMPTY, FALSE, TRUE, Job
 from damaged import damages, flips, spoilt
+from faults import several
 from generate import (
     JOB_V,
     Picture,
@@ -344,7 +345,7 @@ def check_unnamed(text: bytes, table: bytes) -> None:
 
 def check_damages(rng: random.Random, pictured: Picture, tally: Tally) -> None:
     """Every damaged text gives the number and line it was made for."""
-    for damage in damages(rng, pictured):
+    for damage in itertools.chain(damages(rng, pictured), several(rng, pictured)):
         tally.damages += 1
         got = checker.read(damage.text)
         assert got == (damage.number, damage.line, 0, 0, 0, 0), (damage, got)
