@@ -175,6 +175,10 @@ MUTANTS: list[tuple[str, ...]] = [
     ("offer: EG and AG not temporal", "TEMPORAL, 13)\n    value", "TEMPORAL[:4], 13)\n    value"),
     ("accept: EG and AG not temporal", "TEMPORAL, 13)\n    ask(value", "TEMPORAL[:4], 13)\n    ask(value"),
     ("EG and AG not copied", "if rule.kind in TEMPORAL]", "if rule.kind in TEMPORAL[:4]]"),
+]  # fmt: skip
+"""Wrong readings of what a call does with an accepted text."""
+
+TEXT_MUTANTS: list[tuple[str, ...]] = [
     ("fields with leading zeros", 'rb" *(0|[1-9][0-9]*)"', 'rb" *[0-9]+"'),
     ("a field of spaces", 'rb" *(0|[1-9][0-9]*)"', 'rb" *(|0|[1-9][0-9]*)"'),
     ("byte 10 not asked", "or part[-1] != 10", ""),
@@ -203,6 +207,91 @@ MUTANTS: list[tuple[str, ...]] = [
     ("a refusal keeps the state", "return [no.number, no.line] + [0] * (width - 2), bytes(table)",
      "return [no.number, no.line] + list(numbers[:width - 2]) + [0] * (width - 2 - len(numbers[:width - 2])), bytes(table)"),
 ]  # fmt: skip
+"""Wrong readings of a text, of the call line and of a refusal."""
+
+
+FAULT_MUTANTS: list[tuple[str, ...]] = [
+    # Which question is answered where two fail.
+    ("5 wins over a later 4", "        ask(line_fields is not None, 4, number)\n",
+     "        for s, (owner, label) in enumerate(lines[: size.states] if line_fields is None else []):\n"
+     "            ask(owner < size.nodes and label <= 65_535, 5, 2 + s)\n"
+     "        ask(line_fields is not None, 4, number)\n"),
+    ("6 wins over a later 4", "        ask(line_fields is not None, 4, number)\n",
+     "        so_far = lines[size.states : size.states + size.edges] if line_fields is None else []\n"
+     "        for e, edge in enumerate(so_far):\n"
+     "            ask(max(edge) < size.states and (e == 0 or so_far[e - 1] < edge), 6, 2 + size.states + e)\n"
+     "        ask(line_fields is not None, 4, number)\n"),
+    ("7 wins over a later 4", "        ask(line_fields is not None, 4, number)\n",
+     "        if line_fields is None and number >= 2 + size.states + size.edges:\n"
+     "            starts = [edge[0] for edge in lines[size.states : size.states + size.edges]]\n"
+     "            for s in range(size.states):\n"
+     "                ask(s in starts, 7, 2 + s)\n"
+     "        ask(line_fields is not None, 4, number)\n"),
+    ("8 wins over a later 4", "        ask(line_fields is not None, 4, number)\n",
+     "        for k, rule in enumerate(lines[size.states + size.edges :] if line_fields is None else []):\n"
+     "            ask(rule[0] in KINDS, 8, 2 + size.states + size.edges + k)\n"
+     "        ask(line_fields is not None, 4, number)\n"),
+    ("6 before 5", "    for s, (owner, label) in enumerate(states):\n",
+     "    for e, edge in enumerate(edges):\n"
+     "        ask(max(edge) < size.states and (e == 0 or edges[e - 1] < edge), 6, 2 + first_edge + e)\n"
+     "    for s, (owner, label) in enumerate(states):\n"),
+    ("7 before 6", "    for e, (start, end) in enumerate(edges):\n",
+     "    for s in range(size.states):\n"
+     "        ask(s in [start for start, _ in edges], 7, 2 + s)\n"
+     "    for e, (start, end) in enumerate(edges):\n"),
+    ("7 as soon as a line leaves a state out", "            2 + first_edge + e,\n        )\n",
+     "            2 + first_edge + e,\n        )\n"
+     "        following = edges[e - 1][0] + 1 if e else 0\n"
+     "        ask(start <= following, 7, 2 + following)\n"),
+    ("8 before 5", "    for s, (owner, label) in enumerate(states):\n",
+     "    for k, rule in enumerate(rules):\n        ask(rule.kind in KINDS, 8, 2 + first_rule + k)\n"
+     "    for s, (owner, label) in enumerate(states):\n"),
+    ("8 before 7", "    successors: list[list[int]] = [[] for _ in states]\n",
+     "    for k, rule in enumerate(rules):\n        ask(rule.kind in KINDS, 8, 2 + first_rule + k)\n"
+     "    successors: list[list[int]] = [[] for _ in states]\n"),
+    # Which line is told where two fail.
+    ("4 with the last such line", "for number in range(2, 2 + size.states + size.edges + size.formulas):",
+     "for number in reversed(range(2, 2 + size.states + size.edges + size.formulas)):",
+     "lines.append(line_fields)", "lines.insert(0, line_fields)"),
+    ("5 with the last such line", "in enumerate(states):", "in reversed([*enumerate(states)]):"),
+    ("6 with the last such line", "in enumerate(edges):", "in reversed([*enumerate(edges)]):"),
+    ("7 with the last such state", "for s in range(size.states):\n        ask(len", "for s in reversed(range(size.states)):\n        ask(len"),
+    ("8 with the last such line", "in enumerate(rules):\n        ask(\n", "in reversed([*enumerate(rules)]):\n        ask(\n"),
+    # The edge lines.
+    ("6: all ranges before the order", "    for e, (start, end) in enumerate(edges):\n",
+     "    for e, edge in enumerate(edges):\n        ask(max(edge) < size.states, 6, 2 + first_edge + e)\n"
+     "    for e, (start, end) in enumerate(edges):\n"),
+    ("6: the order before all ranges", "    for e, (start, end) in enumerate(edges):\n",
+     "    for e in range(1, size.edges):\n        ask(edges[e - 1] < edges[e], 6, 2 + first_edge + e)\n"
+     "    for e, (start, end) in enumerate(edges):\n"),
+    ("6: from not asked", "            start < size.states\n            and end < size.states\n", "            end < size.states\n"),
+    ("6: to not asked", "            and end < size.states\n", ""),
+    ("6: from up to S", "start < size.states", "start <= size.states"),
+    ("6: to up to S", "end < size.states", "end <= size.states"),
+    ("6: to up to 255", "end < size.states", "end < 256"),
+    ("6: to cut to a byte", "end < size.states", "end % 2**8 < size.states"),
+    ("6: to cut to two bytes", "end < size.states", "end % 2**16 < size.states"),
+    ("6: ends of the first line not asked", "            start < size.states\n            and end < size.states\n            and (e == 0 or edges[e - 1] < edges[e]),\n",
+     "            e == 0 or start < size.states\n            and end < size.states\n            and edges[e - 1] < edges[e],\n"),
+    ("6: the last line not asked", "in enumerate(edges):", "in enumerate(edges[:-1]):"),
+    ("6: the first pair greater than 0, 0", "(e == 0 or edges[e - 1] < edges[e])", "(edges[e - 1] if e else (0, 0)) < edges[e]"),
+    ("6: pairs compared with the first", "edges[e - 1] < edges[e]", "edges[0] < edges[e]"),
+    ("6: pairs compared with the one two lines before", "edges[e - 1] < edges[e]", "edges[max(e - 2, 0)] < edges[e]"),
+    ("6: pairs compared by to, then by from", "edges[e - 1] < edges[e]", "edges[e - 1][::-1] < edges[e][::-1]"),
+    ("6: to ascending over all lines", "edges[e - 1] < edges[e]", "edges[e - 1] < edges[e] and edges[e - 1][1] <= edges[e][1]"),
+    ("7: an edge into the state is enough", "ask(len(successors[s]) > 0, 7", "ask(any(s in edge for edge in edges), 7"),
+    ("7: a loop is not enough", "ask(len(successors[s]) > 0, 7", "ask(any(t != s for t in successors[s]), 7"),
+    ("7: the last line does not count", "ask(len(successors[s]) > 0, 7", "ask(any(start == s for start, _ in edges[:-1]), 7"),
+    ("7: the first line does not count", "ask(len(successors[s]) > 0, 7", "ask(any(start == s for start, _ in edges[1:]), 7"),
+    ("7: states before the first edge's not asked", "for s in range(size.states):\n        ask(len", "for s in range(edges[0][0], size.states):\n        ask(len"),
+    ("7: states behind the last edge's not asked", "for s in range(size.states):\n        ask(len", "for s in range(edges[-1][0] + 1):\n        ask(len"),
+]  # fmt: skip
+"""Wrong readings of a text with several faults, and of questions 6 and 7, as a
+reader that goes over the lines once may have them.
+
+That the pair before is the last right one, or that what was kept for 7 is lost
+where a line fails 6, are no mutants: up to the first line that fails 6 all lines
+are right, and from there on nothing but that line is told."""
 
 
 TRUTH_MUTANTS: list[tuple[str, ...]] = [
@@ -477,14 +566,19 @@ def answers(model: types.ModuleType, trial: trials.Trial) -> list[object]:
 
 
 SET_MODELS = dict(set_modules())
-MODELS = SET_MODELS | modules(checker, MUTANTS)
+FAULT_MODELS = modules(checker, FAULT_MUTANTS)
+READER_MODELS = modules(checker, TEXT_MUTANTS) | FAULT_MODELS
+MODELS = SET_MODELS | modules(checker, MUTANTS) | READER_MODELS
 TRUTH_MODELS = modules(checker, TRUTH_MUTANTS)
 RULE_MODELS = modules(rules, RULE_MUTANTS)
 """The mutants as models."""
 
 
 def noticed(trial: trials.Trial, names: Iterable[str]) -> list[str]:
-    """Those of the mutants that answer a case otherwise than the model."""
+    """Those of the mutants that answer a case otherwise than the model: where the
+    text is refused, only those of the reader can."""
+    if checker.read(trial.text)[0] != 0:
+        names = [name for name in names if name in READER_MODELS]
     right = answers(checker, trial)
     return [name for name in names if answers(MODELS[name], trial) != right]
 

@@ -16,11 +16,12 @@ from dataclasses import dataclass
 
 import checker
 import damaged
+import faults
 import generate
 import mutants
 import tables
 
-SEED, COUNT = 1, 160
+SEED, COUNT = 1, 200
 """The gate's cases."""
 
 QUESTIONS = {
@@ -180,6 +181,18 @@ def damages_of_one(rng: random.Random) -> list[Trial]:
     ]
 
 
+def faulty_trial(rng: random.Random) -> Trial:
+    """A text with several faults at once, or an edge list with wrong lines; which
+    of them is told is told by read alone."""
+    job = small(rng)
+    if rng.randrange(2):
+        damage = faults.some_faults(rng, job)
+        text, note = damage.text, f"several faults: {damage.name}"
+    else:
+        text, note = faults.some_edge_list(rng, job).text(), "edge list"
+    return Trial(text, b"", [], some_lines(rng, job), note)
+
+
 def flipped_trial(rng: random.Random) -> Trial:
     """A text with one bit turned over."""
     job = small(rng)
@@ -307,6 +320,7 @@ def sets_trial(rng: random.Random) -> Trial:
 
 KINDS_OF_TRIAL = (
     [damaged_trial] * 3
+    + [faulty_trial] * 6
     + [flipped_trial]
     + [bad_table_trial]
     + [calls_trial] * 6
@@ -395,8 +409,14 @@ class Pool:
             seldom = self.shown_less(TWICE)
             if not seldom:
                 break
-            sets = not mutants.SET_MODELS.keys().isdisjoint(seldom)
-            self.add((sets_trial if sets else rng.choice(KINDS_OF_TRIAL))(rng), seldom)
+            draw = rng.choice(KINDS_OF_TRIAL)
+            for models, fitting in (
+                (mutants.FAULT_MODELS, faulty_trial),
+                (mutants.SET_MODELS, sets_trial),
+            ):
+                if not models.keys().isdisjoint(seldom):
+                    draw = fitting
+            self.add(draw(rng), seldom)
 
     def shown_less(self, times: int) -> list[str]:
         """What fewer cases show."""
