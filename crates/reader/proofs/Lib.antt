@@ -1,3 +1,1 @@
-mod WordLaws
-mod LineLaws
 mod ReaderLaws

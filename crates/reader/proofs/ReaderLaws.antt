@@ -31,8 +31,9 @@ use Rattle.edge_pass.specs.EdgePass.{keptAfter, keptOf, bareState, question6, q
 use Rattle.edge_pass.specs.declared.Kept.{Kept}
 use Rattle.edge_pass.proofs.EdgePassLaws.{kept-states, kept-right, kept-marks, answer-6, answer-7}
 use Rattle.image.specs.Image.{WORDS, OWNERS, LABELS, SOURCES, TARGETS, KINDS, LEFTS, RIGHTS, FIRST, word}
-use Rattle.reader.specs.NumbersRead.{headerOf, LinesRead, Askable, HeadLaid, stateFormed, StatesLaid, StatesRead, edgeFormed, EdgesLaid, EdgesRead, formulaFormed, FormulasLaid, FormulasRead, linesAsked, NumbersLaid, NumbersRead}
-use Rattle.reader.specs.declared.lines.Lines.{Lines}
+use Rattle.line_reader.specs.LinesRead.{headerOf, LinesRead, HeadLaid, stateFormed, StatesLaid, StatesRead, edgeFormed, EdgesLaid, EdgesRead, formulaFormed, FormulasLaid, FormulasRead}
+use Rattle.line_reader.specs.declared.lines.Lines.{Lines}
+use Rattle.reader.specs.NumbersRead.{Askable, linesAsked, NumbersLaid, NumbersRead}
 
 -- Questions 5 to 8, each the first that is answered no, or none.
 module _ (h : Header) (s : ℕ) (k : Kept) (f : ℕ) where

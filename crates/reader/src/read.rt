@@ -4,11 +4,8 @@ ghost use lib.ListN.{length};
 ghost use Rattle.job.specs.Question.{answered};
 ghost use Rattle.job.specs.Read.{readTold, readAnswer};
 ghost use Rattle.image.specs.Image.{WORDS};
-ghost use Rattle.reader.specs.NumbersRead.{Askable, linesAsked, headerOf, NumbersRead};
-use crate::edges::read_edges;
-use crate::formula::read_formulas;
-use crate::lines::lay_head;
-use crate::states::read_states;
+ghost use Rattle.line_reader.specs.LinesRead.{headerOf};
+ghost use Rattle.reader.specs.NumbersRead.{Askable, linesAsked, NumbersRead};
 use edge_pass::Kept;
 use edge_pass::bare_state;
 use image::image::Image;
@@ -16,6 +13,10 @@ use job::reading::Header;
 use job::reading::Reading;
 use layout::head::head;
 use layout::refusal::refuse;
+use line_reader::edges::read_edges;
+use line_reader::formula::read_formulas;
+use line_reader::lines::lay_head;
+use line_reader::states::read_states;
 
 // Questions 5 to 8, where every line is well-formed: how many state lines and subformula lines are right before the first that is not, and what the
 // pass over the edge lines keeps.

@@ -2,8 +2,8 @@
 use mathlib.Core.Path.{sym, ap, _∙_}
 use Rattle.job.specs.Formula.{isFormula}
 use borrow.Author.Needs.{needs}
-use Rattle.reader.proofs.formula.is_subformula.Statement.{statement}
-use Rattle.reader.proofs.formula.is_subformula.Tie as tie
+use Rattle.line_reader.proofs.formula.is_subformula.Statement.{statement}
+use Rattle.line_reader.proofs.formula.is_subformula.Tie as tie
 
 returns : tie.Need-returns
 unfolding isFormula

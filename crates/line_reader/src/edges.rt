@@ -3,7 +3,7 @@ ghost use mathlib.Core.Path.{_≡_};
 ghost use lib.ListN.{length};
 ghost use Rattle.job.specs.Leaves.{Fits};
 ghost use Rattle.image.specs.Image.{WORDS};
-ghost use Rattle.reader.specs.NumbersRead.{EdgesRead};
+ghost use Rattle.line_reader.specs.LinesRead.{EdgesRead};
 use crate::lines::lay;
 use edge_pass::Kept;
 use edge_pass::Order;
@@ -17,7 +17,7 @@ use text::fields::Pair;
 use text::fields::read_pair;
 
 // What the pass keeps after the last edge line, or after the last before the first that is malformed.
-pub(crate) fn read_edges(text: &[u8], h: Header, m: &mut Image) -> Kept
+pub fn read_edges(text: &[u8], h: Header, m: &mut Image) -> Kept
     requires { ⌜ Fits (now text) h ⌝ }
     requires { ⌜ length (now m) ≡ WORDS ⌝ }
     ensures { λ r. ⌜ EdgesRead (now (text .entry)) h (now (m .entry)) (now (m .exit)) r ⌝ }

@@ -6,11 +6,11 @@ use Rattle.text.specs.Field.{Text}
 use Rattle.job.specs.Questions.{formulaOk}
 use Rattle.job.specs.Leaves.{Fits}
 use Rattle.job.specs.declared.reading.Header.{Header}
-use Rattle.reader.specs.NumbersRead.{formulaFormed, FormulasLaid}
-use Rattle.reader.proofs.LineLaws.{SoFar, lines-none, lines-few, lines-stop, lines-done, formulas-none, formula-stops, formula-more}
+use Rattle.line_reader.specs.LinesRead.{formulaFormed, FormulasLaid}
+use Rattle.line_reader.proofs.LineLaws.{SoFar, lines-none, lines-few, lines-stop, lines-done, formulas-none, formula-stops, formula-more}
 use borrow.Author.Needs.{needs}
-use Rattle.reader.proofs.formula.read_formulas.Statement.{statement}
-use Rattle.reader.proofs.formula.read_formulas.Tie as tie
+use Rattle.line_reader.proofs.formula.read_formulas.Statement.{statement}
+use Rattle.line_reader.proofs.formula.read_formulas.Tie as tie
 
 abbrev Inv-loop : tie.InvT-loop
 Inv-loop text m₀ behind subformulas right₀ k₀ m right k =

@@ -3,14 +3,14 @@ ghost use mathlib.Core.Path.{_≡_};
 ghost use Prim.Native.Nat.{_<_, _%_};
 ghost use lib.ListN.{length, set};
 ghost use Rattle.image.specs.Image.{WORDS};
-ghost use Rattle.reader.specs.NumbersRead.{HeadLaid};
+ghost use Rattle.line_reader.specs.LinesRead.{HeadLaid};
 use image::image::Image;
 use job::reading::Header;
 
 // How many lines are well-formed before the first that is not, and how many of these are right before the first that is not.
-pub(crate) struct Lines {
-    pub(crate) formed: usize,
-    pub(crate) right: usize,
+pub struct Lines {
+    pub formed: usize,
+    pub right: usize,
 }
 
 // A number as the word at i, as far as it fits: the numbers of an accepted text do.
@@ -22,7 +22,7 @@ pub(crate) fn lay(m: &mut Image, i: usize, v: usize)
 }
 
 // The numbers of line 1.
-pub(crate) fn lay_head(m: &mut Image, h: Header)
+pub fn lay_head(m: &mut Image, h: Header)
     requires { ⌜ length (now m) ≡ WORDS ⌝ }
     ensures { λ _. ⌜ HeadLaid h (now (m .entry)) (now (m .exit)) ⌝ }
 {

@@ -1,9 +1,9 @@
 -- `lay_head`: the first four words, one after the other.
 use native.Mathlib.Omega.{arith}
 use borrow.Author.Needs.{needs}
-use Rattle.reader.proofs.LineLaws.{head-laid}
-use Rattle.reader.proofs.lines.lay_head.Statement.{statement}
-use Rattle.reader.proofs.lines.lay_head.Tie as tie
+use Rattle.line_reader.proofs.LineLaws.{head-laid}
+use Rattle.line_reader.proofs.lines.lay_head.Statement.{statement}
+use Rattle.line_reader.proofs.lines.lay_head.Tie as tie
 
 lay-requires-2 : tie.Need-lay-requires-2
 lay-requires-2 c κs = (c .before .lay .ensures .1, omega arith)

@@ -4,7 +4,7 @@ ghost use lib.ListN.{length};
 ghost use Rattle.job.specs.Formula.{parsed, isFormula};
 ghost use Rattle.job.specs.Leaves.{Fits};
 ghost use Rattle.image.specs.Image.{WORDS};
-ghost use Rattle.reader.specs.NumbersRead.{FormulasRead};
+ghost use Rattle.line_reader.specs.LinesRead.{FormulasRead};
 use crate::lines::Lines;
 use crate::lines::lay;
 use image::image::Image;
@@ -27,7 +27,7 @@ fn is_subformula(k: usize, kind: usize, a: usize, b: usize) -> bool
     }
 }
 
-pub(crate) fn read_formulas(text: &[u8], h: Header, m: &mut Image) -> Lines
+pub fn read_formulas(text: &[u8], h: Header, m: &mut Image) -> Lines
     requires { ⌜ Fits (now text) h ⌝ }
     requires { ⌜ length (now m) ≡ WORDS ⌝ }
     ensures { λ r. ⌜ FormulasRead (now (text .entry)) h (now (m .entry)) (now (m .exit)) r ⌝ }

@@ -1,8 +1,8 @@
 -- `is_state`: both tests.
 use borrow.Author.Tests.{lt-ltb, le-ltb}
 use borrow.Author.Needs.{needs}
-use Rattle.reader.proofs.states.is_state.Statement.{statement}
-use Rattle.reader.proofs.states.is_state.Tie as tie
+use Rattle.line_reader.proofs.states.is_state.Statement.{statement}
+use Rattle.line_reader.proofs.states.is_state.Tie as tie
 
 returns : tie.Need-returns
 returns c = simp (lt-ltb _ _ (c .if1 .taken))

@@ -6,11 +6,11 @@ use Rattle.text.specs.Field.{Text}
 use Rattle.job.specs.Questions.{stateOk}
 use Rattle.job.specs.Leaves.{Fits}
 use Rattle.job.specs.declared.reading.Header.{Header}
-use Rattle.reader.specs.NumbersRead.{stateFormed, StatesLaid}
-use Rattle.reader.proofs.LineLaws.{SoFar, lines-none, lines-few, lines-stop, lines-done, states-none, state-stops, state-more}
+use Rattle.line_reader.specs.LinesRead.{stateFormed, StatesLaid}
+use Rattle.line_reader.proofs.LineLaws.{SoFar, lines-none, lines-few, lines-stop, lines-done, states-none, state-stops, state-more}
 use borrow.Author.Needs.{needs}
-use Rattle.reader.proofs.states.read_states.Statement.{statement}
-use Rattle.reader.proofs.states.read_states.Tie as tie
+use Rattle.line_reader.proofs.states.read_states.Statement.{statement}
+use Rattle.line_reader.proofs.states.read_states.Tie as tie
 
 abbrev Inv-loop : tie.InvT-loop
 Inv-loop text m₀ states nodes right₀ s₀ m right s = (s ≤ states) × SoFar (stateFormed text) (stateOk text) s right × StatesLaid text s m₀ m

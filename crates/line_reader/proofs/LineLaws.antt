@@ -27,8 +27,8 @@ use Rattle.edge_pass.specs.declared.Order.{Order}
 use Rattle.edge_pass.specs.declared.Kept.{Kept}
 use Rattle.edge_pass.proofs.EdgePassLaws.{kept-lines, kept-right, kept-marks}
 use Rattle.image.specs.Image.{WORDS, OWNERS, LABELS, SOURCES, TARGETS, KINDS, LEFTS, RIGHTS, FIRST}
-use Rattle.reader.specs.NumbersRead.{headerOf, Holds, Changed, LinesRead, HeadLaid, stateFormed, StatesLaid, StatesRead, edgeFormed, EdgesLaid, EdgesRead, formulaFormed, FormulasLaid, FormulasRead}
-use Rattle.reader.proofs.WordLaws.{holds-none, holds-more, holds-on, changed-none, changed-more}
+use Rattle.line_reader.specs.LinesRead.{headerOf, Holds, Changed, LinesRead, HeadLaid, stateFormed, StatesLaid, StatesRead, edgeFormed, EdgesLaid, EdgesRead, formulaFormed, FormulasLaid, FormulasRead}
+use Rattle.line_reader.proofs.WordLaws.{holds-none, holds-more, holds-on, changed-none, changed-more}
 
 -- Lines of any kind: all of the first n are well-formed, and so many of them are right before the first that is not.
 pub record SoFar (isFormed isRight : ℕ → Bool) (n right : ℕ) : Type 0 where

@@ -7,7 +7,7 @@ use borrow.Author.Count.{below-none, below-more}
 use lib.ListN.{length, getD, set, length-set}
 use lib.Seq.{getD-set-same, getD-set-other}
 use Rattle.image.specs.Image.{WORDS, word}
-use Rattle.reader.specs.NumbersRead.{Holds, Changed}
+use Rattle.line_reader.specs.LinesRead.{Holds, Changed}
 
 module _ (m : List ℕ) (region n : ℕ) (f : ℕ → ℕ) where
   pub holds-none : Holds m region 0 f

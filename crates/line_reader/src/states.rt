@@ -5,7 +5,7 @@ ghost use lib.Dec.{ltb, leb};
 ghost use lib.ListN.{length};
 ghost use Rattle.job.specs.Leaves.{Fits};
 ghost use Rattle.image.specs.Image.{WORDS};
-ghost use Rattle.reader.specs.NumbersRead.{StatesRead};
+ghost use Rattle.line_reader.specs.LinesRead.{StatesRead};
 use crate::lines::Lines;
 use crate::lines::lay;
 use image::image::Image;
@@ -22,7 +22,7 @@ fn is_state(nodes: usize, owner: usize, label: usize) -> bool
     owner < nodes && label <= 65535
 }
 
-pub(crate) fn read_states(text: &[u8], h: Header, m: &mut Image) -> Lines
+pub fn read_states(text: &[u8], h: Header, m: &mut Image) -> Lines
     requires { ⌜ Fits (now text) h ⌝ }
     requires { ⌜ length (now m) ≡ WORDS ⌝ }
     ensures { λ r. ⌜ StatesRead (now (text .entry)) h (now (m .entry)) (now (m .exit)) r ⌝ }

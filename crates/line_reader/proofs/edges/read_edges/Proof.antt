@@ -7,10 +7,10 @@ use Rattle.text.specs.Field.{Text}
 use Rattle.job.specs.Leaves.{Fits}
 use Rattle.job.specs.declared.reading.Header.{Header}
 use Rattle.edge_pass.specs.EdgePass.{start}
-use Rattle.reader.proofs.LineLaws.{EdgesSoFar, edges-none, edge-more, edges-few, edges-marks, edges-stop, edges-done}
+use Rattle.line_reader.proofs.LineLaws.{EdgesSoFar, edges-none, edge-more, edges-few, edges-marks, edges-stop, edges-done}
 use borrow.Author.Needs.{needs}
-use Rattle.reader.proofs.edges.read_edges.Statement.{statement}
-use Rattle.reader.proofs.edges.read_edges.Tie as tie
+use Rattle.line_reader.proofs.edges.read_edges.Statement.{statement}
+use Rattle.line_reader.proofs.edges.read_edges.Tie as tie
 
 abbrev Inv-loop : tie.InvT-loop
 Inv-loop text m₀ states edges order₀ starts₀ e₀ m order starts e = (e ≤ edges) × EdgesSoFar text m₀ m order starts e
