@@ -1,7 +1,7 @@
 -- The demands and what the change requests promise, sentence by sentence and in their words, each proved by citing what did the work. What a call
 -- comes to is said by its function's contract: `Happens l x c t a u`, the call c with text x on table t answers a and leaves u; `Rules l x b a u`,
 -- rule with text x on buffer b answers a and leaves u. The words are those of `promises/specs`. Assumes nothing.
-use Prim.Native.Nat.{ℕ, _<_, _≤_}
+use Prim.Native.Nat.{ℕ, suc, _<_, _≤_}
 use mathlib.Core.Path.{_≡_}
 use mathlib.Core.Bool.{true}
 use mathlib.Core.List.{List, [], _∷_, _++_}
@@ -10,10 +10,12 @@ use lib.ListN.{length}
 use Rattle.text.specs.Field.{Text}
 use Rattle.job.specs.Job.{Job, Structure, forAll, exists, size, subformulaCount, subformula, owner, decode}
 use Rattle.job.specs.Answer.{Answer, accepted, refused}
-use Rattle.job.specs.Questions.{textQuestions, formulaLines, Accepted}
+use Rattle.job.specs.Layout.{sourceField, targetField}
+use Rattle.job.specs.Questions.{textQuestions, edgeLines, edgesOut, formulaLines, Accepted}
 use Rattle.job.specs.Read.{header, lineOf}
 use Rattle.job.specs.Written.{IsJob}
 use Rattle.job.specs.declared.subformula.Subformula.the-variants.{Eg, Ag}
+use Rattle.edge_pass.specs.EdgePass.{keptAfter, keptOf, question6, question7}
 use Rattle.ctl.specs.Truth.{Walk, Holds}
 use Rattle.ctl.proofs.Total.{State, Total, total-job}
 use Rattle.cells.specs.Table.{Table, cell, ownerCell}
@@ -38,6 +40,7 @@ use Rattle.promises.specs.Demand2.{Accepts, JobText, FilledByRules, SmallestAnd
 use Rattle.promises.specs.Demand3.{FreshFor, ListOfCalls, leftBy, callsOf, AsDefined, CellsTrue, OneMoreFinish, OneMachine}
 use Rattle.promises.specs.UnnamedNode.{unnamedQuestions, unknownNodeQuestions}
 use Rattle.promises.specs.AllAlong.{HasLine, FilledAllAlong, ClosedByKind, kindsAdmitted}
+use Rattle.promises.specs.OneWalk.{LetThrough, walkedQuestions, bytesKept, lowerJob, farJob}
 use Rattle.promises.specs.RuleText.{LinesWritten, LastLineIsTruth, LinesInOrder, InJob, RulePrinted}
 use Rattle.demands.specs.Functions.{AsksNothing, Proved}
 use Rattle.demands.proofs.Proved.{asks-nothing, proved}
@@ -50,6 +53,7 @@ use Rattle.promises.proofs.Judged.{prints-judged}
 use Rattle.promises.proofs.RuleText.{rules-first, rules-stay, rules-exact, rules-written, rules-in-job, means-in-order, rules-agree, prints-rule}
 use Rattle.promises.proofs.UnnamedNode.{happens-named, happens-owner, happens-unnamed, happens-never-18, happens-step-255, happens-accept-255}
 use Rattle.promises.proofs.AllAlong.{eg-walks, ag-walks, eg-ag-temporal, happens-eg, happens-ag, happens-closed, question-8}
+use Rattle.promises.proofs.OneWalk.{line-alone, kept-small, kept-6, kept-7, reads-walked, accepted-let-through, lower-far-through}
 use Rattle.promises.proofs.Hypotheses.{lent, fresh-for, one-machine, example, looked, has-eg, has-ag, ring-example}
 
 -- Demand 1. "Any bytes and any numbers:
@@ -251,9 +255,35 @@ prefixes-alike = prefix-means
 
 -- "Every order of messages still has to end in CTL truth for jobs with the two kinds": that is `demand-3`, which is about every job.
 
+-- Request (iv), one walk over the edge lines. "What the pass keeps after an edge line, at most 1,024 bytes,
+pub kept-in-1024-bytes : (x : Text) (e : ℕ) → bytesKept (keptAfter x e) ≤ 1024
+kept-in-1024-bytes = kept-small
+
+-- follows from what it kept before and from that line alone;
+pub kept-by-that-line-alone :
+    (x y : Text) (e : ℕ)
+    → keptAfter x e ≡ keptAfter y e
+    → sourceField x e ≡ sourceField y e
+    → targetField x e ≡ targetField y e
+    → keptAfter x (suc e) ≡ keptAfter y (suc e)
+kept-by-that-line-alone = line-alone
+
+-- both answers follow from what it keeps after the last." On every text that question 5 lets through, whatever its edge lines, they are questions 6
+-- and 7 as document 01 has them: the answer and the line that a no reports.
+module _ (x : Text) (through : LetThrough x) where
+  pub question-6-from-what-is-kept : question6 (keptOf x) ≡ edgeLines x
+  question-6-from-what-is-kept = kept-6 x
+
+  pub question-7-from-what-is-kept : question7 (keptOf x) ≡ edgesOut x
+  question-7-from-what-is-kept = kept-7 x through
+
+-- "With the same number and line for each text": read answers by the questions with these two in their places.
+pub read-by-one-walk : (l : Loan) (x : Text) (a : Answer) → Reads l x a → AnswersBy (walkedQuestions x) 4 (header x) a
+read-by-one-walk l x = reads-walked x l
+
 -- What is supposed here can be had: what is defined may happen, a table fresh for a text, two cuttings of one machine, a list with messages, a
--- rule within the limits, structures in which each state has an edge out, a look without a node that is accepted, jobs with EG and AG, and a list
--- with steps of EG, a close that fills 1 and a message about it.
+-- rule within the limits, structures in which each state has an edge out, a look without a node that is accepted, jobs with EG and AG, a list
+-- with steps of EG, a close that fills 1 and a message about it, and texts that question 5 lets through: every accepted one, and two that fail 6 and 7.
 pub defined-may-happen : (l : Loan) (x : Text) → MayHappen l x
 defined-may-happen = may-happen
 
@@ -300,3 +330,9 @@ pub calls-all-along :
     ∷ (accept 1 0 1 1, accepted (0 ∷ []))
     ∷ [])
 calls-all-along = ring-example
+
+pub accepted-texts-let-through : (x : Text) → Accepted x → LetThrough x
+accepted-texts-let-through = accepted-let-through
+
+pub let-through-and-wrong : LetThrough (bytes lowerJob) × LetThrough (bytes farJob)
+let-through-and-wrong = lower-far-through

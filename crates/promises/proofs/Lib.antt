@@ -9,3 +9,4 @@ pub mod Hypotheses
 pub mod RuleText
 pub mod UnnamedNode
 pub mod AllAlong
+pub mod OneWalk

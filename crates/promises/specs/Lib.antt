@@ -5,3 +5,4 @@ pub mod Demand3
 pub mod RuleText
 pub mod UnnamedNode
 pub mod AllAlong
+pub mod OneWalk
