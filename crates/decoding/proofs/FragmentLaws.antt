@@ -7,7 +7,7 @@ use native.Mathlib.Numerals.{add-one}
 use native.Mathlib.Omega.{arith}
 use borrow.Author.Count.{below-none, below-more}
 use borrow.Author.Tests.{eq-eqb, ne-eqb, not-true, not-false}
-use lib.ListN.{length, getD, set, replicate, length-set, getD-replicate}
+use lib.ListN.{length, getD, set, length-set}
 use lib.Seq.{getD-set-same, getD-set-other}
 use Rattle.law.specs.Bounded.{count}
 use Rattle.law.proofs.Count.{count-le}

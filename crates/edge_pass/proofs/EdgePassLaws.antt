@@ -1,7 +1,7 @@
 -- What the pass keeps after so many edge lines of a text, and that questions 6 and 7 are answered from it as document 01 has them. Assumes nothing.
 use Prim.Native.Nat.{ℕ, zero, suc, _+_, _-_, _<_, _≤_}
-use mathlib.Core.Path.{_≡_, refl, sym, _∙_, ap, ap₂}
-use mathlib.Core.Bool.{Bool, true, false, cond, not, _&&_, _||_}
+use mathlib.Core.Path.{_≡_, refl, sym, _∙_, ap}
+use mathlib.Core.Bool.{Bool, not, _&&_, _||_}
 use native.Mathlib.Numerals.{add-one, sub-one}
 use native.Mathlib.Omega.{arith}
 use borrow.Author.Tests.{eq-eqb, ne-eqb}
@@ -13,7 +13,6 @@ use Rattle.law.proofs.Bool.{or-true, or-false}
 use Rattle.law.proofs.Bounded.{by-equal, any-suc, first-same}
 use Rattle.text.specs.Field.{Text}
 use Rattle.job.specs.Layout.{states, edges, sourceField, targetField}
-use Rattle.job.specs.Question.{Question}
 use Rattle.job.specs.Questions.{ofLines, less, ascends, edgeOk, hasEdgeOut, edgeLines, edgesOut}
 use Rattle.layout.specs.Lines.{rightAfter}
 use Rattle.layout.proofs.LinesLaws.{right-first}

@@ -104,3 +104,12 @@ module _ {A : Type 0} where
   pub cond-false : (b : Bool) (x y : A) → b ≡ false → cond b x y ≡ y
   cond-false true x y e = absurd (true≢false e)
   cond-false false x y e = refl
+
+  -- which of the two it is, told by the outcome
+  pub cond-is-first : (b : Bool) (x y z : A) → (y ≡ z → ⊥) → cond b x y ≡ z → (b ≡ true) × (x ≡ z)
+  cond-is-first true x y z other e = (refl, e)
+  cond-is-first false x y z other e = absurd (other e)
+
+  pub cond-is-second : (b : Bool) (x y z : A) → (x ≡ z → ⊥) → cond b x y ≡ z → b ≡ false
+  cond-is-second true x y z other e = absurd (other e)
+  cond-is-second false x y z other e = refl

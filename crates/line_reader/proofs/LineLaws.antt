@@ -1,5 +1,5 @@
 -- The loops over the lines, turn by turn: none is read, one more is, one is malformed, all are read. Assumes nothing.
-use Prim.Native.Nat.{ℕ, zero, suc, _+_, _*_, _%_, _<_, _≤_}
+use Prim.Native.Nat.{ℕ, _+_, _*_, _%_, _<_, _≤_}
 use mathlib.Core.Path.{_≡_, refl, sym, _∙_, ap, ap₂, subst}
 use mathlib.Core.Bool.{Bool, true, false, not, _&&_}
 use mathlib.Core.List.{List}
@@ -10,7 +10,7 @@ use lib.ListN.{length, getD, set, length-set}
 use lib.Dec.{ltb, leb}
 use Rattle.law.specs.Bounded.{first}
 use Rattle.law.proofs.Bounded.{first-fails, first-none-fails, first-le}
-use Rattle.text.specs.Field.{Text, numberAt, formed}
+use Rattle.text.specs.Field.{Text}
 use Rattle.text.specs.Fields.{pair, triple}
 use Rattle.text.specs.declared.fields.Pair.the-variants as pairs
 use Rattle.text.specs.declared.fields.Triple.the-variants as triples
@@ -24,10 +24,9 @@ use Rattle.layout.specs.Lines.{rightAfter}
 use Rattle.layout.proofs.LinesLaws.{right-first}
 use Rattle.edge_pass.specs.EdgePass.{start, orderAfter, after, keptAfter}
 use Rattle.edge_pass.specs.declared.Order.{Order}
-use Rattle.edge_pass.specs.declared.Kept.{Kept}
 use Rattle.edge_pass.proofs.EdgePassLaws.{kept-lines, kept-right, kept-marks}
 use Rattle.image.specs.Image.{WORDS, OWNERS, LABELS, SOURCES, TARGETS, KINDS, LEFTS, RIGHTS, FIRST}
-use Rattle.line_reader.specs.LinesRead.{headerOf, Holds, Changed, LinesRead, HeadLaid, stateFormed, StatesLaid, StatesRead, edgeFormed, EdgesLaid, EdgesRead, formulaFormed, FormulasLaid, FormulasRead}
+use Rattle.line_reader.specs.LinesRead.{headerOf, Holds, Changed, LinesRead, HeadLaid, stateFormed, StatesLaid, edgeFormed, EdgesLaid, EdgesRead, formulaFormed, FormulasLaid}
 use Rattle.line_reader.proofs.WordLaws.{holds-none, holds-more, holds-on, changed-none, changed-more}
 
 -- Lines of any kind: all of the first n are well-formed, and so many of them are right before the first that is not.

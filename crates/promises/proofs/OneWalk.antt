@@ -1,18 +1,16 @@
 -- Request (iv), one walk over the edge lines: what is kept follows from what was kept and from one line, and questions 6 and 7, answered from it, are
 -- document 01's, so that the reader may be asked by them. Assumes nothing.
 use Prim.Native.Nat.{ℕ, suc, _≤_}
-use mathlib.Core.Path.{_≡_, refl, _∙_}
-use mathlib.Core.List.{List, [], _∷_, _++_, map}
+use mathlib.Core.Path.{_≡_, refl}
+use mathlib.Core.List.{[], _∷_, map}
 use native.Mathlib.Omega.{arith}
-use lib.ListN.{length}
 use Rattle.law.specs.Bounded.{first, all}
-use Rattle.law.specs.Lists.{every}
 use Rattle.law.proofs.Bool.{and-four}
 use Rattle.law.proofs.Lists.{every-elim}
 use Rattle.text.specs.Field.{Text, digits, columns, field, wellFormed, value, numberAt, formed}
 use Rattle.job.specs.Layout.{states, edges, subformulas, nodes, lengthOf, stateAt, edgeAt, subformulaAt, ownerField, labelField, sourceField, targetField, fieldsOf, lineAt}
 use Rattle.job.specs.Answer.{Answer}
-use Rattle.job.specs.Question.{Question, allYes, refusal, answered}
+use Rattle.job.specs.Question.{allYes, refusal, answered}
 use Rattle.job.specs.Questions.{ofLineOne, ofLines, firstLine, ranges, textLength, lineFields, stateLines, edgeLines, edgesOut, formulaLines, headQuestions, lineQuestions, textQuestions, within, inRanges, formedLine, stateOk, less, Accepted}
 use Rattle.job.specs.Read.{header, readAnswer}
 use Rattle.job.proofs.Asked.{within-between}

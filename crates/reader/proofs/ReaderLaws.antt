@@ -1,7 +1,7 @@
 -- From the lines to the reader's answer: the first line that is malformed, questions 5 to 8 from what is known behind the last line, and the
 -- numbers that an accepted text leaves in the array. Assumes nothing.
-use Prim.Native.Nat.{ℕ, zero, suc, _+_, _%_, _<_, _≤_}
-use mathlib.Core.Path.{_≡_, refl, sym, _∙_, ap, ap₂, subst}
+use Prim.Native.Nat.{ℕ, _+_, _%_, _<_, _≤_}
+use mathlib.Core.Path.{_≡_, refl, sym, _∙_, ap, subst}
 use mathlib.Core.Bool.{Bool, true, false, not}
 use mathlib.Core.List.{List, [], _∷_}
 use native.Mathlib.Nat.{mod-eq-of-lt}
@@ -13,9 +13,9 @@ use Rattle.law.specs.Bounded.{first, all}
 use Rattle.law.proofs.Bool.{not-not, not-is-true, not-is-false}
 use Rattle.law.proofs.Bounded.{by-order, first-before, first-passes, first-le, first-fails, all-intro}
 use Rattle.text.specs.Field.{Text}
-use Rattle.job.specs.Layout.{states, edges, subformulas, nodes, stateAt, edgeAt, ownerField, labelField, sourceField, targetField, kindField, leftField, rightField}
+use Rattle.job.specs.Layout.{states, edges, subformulas, nodes, edgeAt, kindField, leftField, rightField}
 use Rattle.job.specs.Question.{Question, answered, refusal}
-use Rattle.job.specs.Questions.{ofLines, stateLines, edgeLines, edgesOut, formulaLines, headQuestions, lineQuestions, textQuestions, formedLine, stateOk, edgeOk, formulaOk}
+use Rattle.job.specs.Questions.{ofLines, stateLines, formulaLines, headQuestions, lineQuestions, textQuestions, formedLine, stateOk, edgeOk, formulaOk}
 use Rattle.job.specs.Answer.{Answer, accepted, refused}
 use Rattle.job.specs.Formula.{parsed, formula as formulaOf}
 use Rattle.job.specs.Read.{header, readAnswer, readTold}
@@ -30,7 +30,7 @@ use Rattle.job.proofs.ReadLaws.{fields-pass, fields-refuse, read-passed}
 use Rattle.edge_pass.specs.EdgePass.{keptAfter, keptOf, bareState, question6, question7}
 use Rattle.edge_pass.specs.declared.Kept.{Kept}
 use Rattle.edge_pass.proofs.EdgePassLaws.{kept-states, kept-right, kept-marks, answer-6, answer-7}
-use Rattle.image.specs.Image.{WORDS, OWNERS, LABELS, SOURCES, TARGETS, KINDS, LEFTS, RIGHTS, FIRST, word}
+use Rattle.image.specs.Image.{OWNERS, LABELS, SOURCES, TARGETS, KINDS}
 use Rattle.line_reader.specs.LinesRead.{headerOf, LinesRead, HeadLaid, stateFormed, StatesLaid, StatesRead, edgeFormed, EdgesLaid, EdgesRead, formulaFormed, FormulasLaid, FormulasRead}
 use Rattle.line_reader.specs.declared.lines.Lines.{Lines}
 use Rattle.reader.specs.NumbersRead.{Askable, linesAsked, NumbersLaid, NumbersRead}

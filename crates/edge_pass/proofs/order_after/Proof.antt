@@ -10,8 +10,9 @@ use Rattle.edge_pass.proofs.order_after.Tie as tie
 returns : tie.Need-returns
 unfolding orderAfter
 returns c =
-    ap (λ n. record { states = c .before .before .before .args .o .states; lines = c .before .before .before .args .o .lines + 1; right = n; source = c .before .before .before .args .source; target = c .before .before .before .args .target })
-    (c .right-after .ensures ∙ ap (rightAfter (c .before .before .before .args .o .right) (c .before .before .before .args .o .lines)) (c .before .before .is-right-next .ensures))
+    let a = c .before .before .before .args in
+    ap (λ n. record { states = a .o .states; lines = a .o .lines + 1; right = n; source = a .source; target = a .target })
+    (c .right-after .ensures ∙ ap (rightAfter (a .o .right) (a .o .lines)) (c .before .before .is-right-next .ensures))
 
 pub order-after-spec : {M : Type 1} → statement M
 order-after-spec = tie.close (tie.spec (λ c κs. search needs) (λ c. search needs) (λ c κs. search needs) returns)
