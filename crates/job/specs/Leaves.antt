@@ -1,4 +1,4 @@
--- What the reader's leaves are given and what they promise, short of a whole answer. Assumes nothing.
+-- What questions 1 to 3 leave to those who read the lines behind line 1. Assumes nothing.
 use Prim.Native.Nat.{_+_, _*_, _≤_}
 use mathlib.Core.Path.{_≡_}
 use mathlib.Core.Bool.{true}
