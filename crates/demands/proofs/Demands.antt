@@ -3,7 +3,7 @@
 -- rule with text x on buffer b answers a and leaves u. The words are those of `promises/specs`. Assumes nothing.
 use Prim.Native.Nat.{ℕ, suc, _<_, _≤_}
 use mathlib.Core.Path.{_≡_}
-use mathlib.Core.Bool.{true}
+use mathlib.Core.Bool.{true, false}
 use mathlib.Core.List.{List, [], _∷_, _++_}
 use mathlib.Core.Logic.{_↔_}
 use lib.ListN.{length}
@@ -40,7 +40,7 @@ use Rattle.promises.specs.Demand2.{Accepts, JobText, FilledByRules, SmallestAnd
 use Rattle.promises.specs.Demand3.{FreshFor, ListOfCalls, leftBy, callsOf, AsDefined, CellsTrue, OneMoreFinish, OneMachine}
 use Rattle.promises.specs.UnnamedNode.{unnamedQuestions, unknownNodeQuestions}
 use Rattle.promises.specs.AllAlong.{HasLine, FilledAllAlong, ClosedByKind, kindsAdmitted}
-use Rattle.promises.specs.OneWalk.{LetThrough, walkedQuestions, bytesKept, lowerJob, farJob}
+use Rattle.promises.specs.OneWalk.{LetThrough, walkedQuestions, bytesKept, lowerJob}
 use Rattle.promises.specs.RuleText.{LinesWritten, LastLineIsTruth, LinesInOrder, InJob, RulePrinted}
 use Rattle.demands.specs.Functions.{AsksNothing, Proved}
 use Rattle.demands.proofs.Proved.{asks-nothing, proved}
@@ -53,7 +53,7 @@ use Rattle.promises.proofs.Judged.{prints-judged}
 use Rattle.promises.proofs.RuleText.{rules-first, rules-stay, rules-exact, rules-written, rules-in-job, means-in-order, rules-agree, prints-rule}
 use Rattle.promises.proofs.UnnamedNode.{happens-named, happens-owner, happens-unnamed, happens-never-18, happens-step-255, happens-accept-255}
 use Rattle.promises.proofs.AllAlong.{eg-walks, ag-walks, eg-ag-temporal, happens-eg, happens-ag, happens-closed, question-8}
-use Rattle.promises.proofs.OneWalk.{line-alone, kept-small, kept-6, kept-7, reads-walked, accepted-let-through, lower-far-through}
+use Rattle.promises.proofs.OneWalk.{line-alone, kept-small, kept-6, kept-7, reads-walked, accepted-let-through, lower-through, lower-fails}
 use Rattle.promises.proofs.Hypotheses.{lent, fresh-for, one-machine, example, looked, has-eg, has-ag, ring-example}
 
 -- Demand 1. "Any bytes and any numbers:
@@ -268,14 +268,13 @@ pub kept-by-that-line-alone :
     → keptAfter x (suc e) ≡ keptAfter y (suc e)
 kept-by-that-line-alone = line-alone
 
--- both answers follow from what it keeps after the last." On every text that question 5 lets through, whatever its edge lines, they are questions 6
--- and 7 as document 01 has them: the answer and the line that a no reports.
-module _ (x : Text) (through : LetThrough x) where
-  pub question-6-from-what-is-kept : question6 (keptOf x) ≡ edgeLines x
-  question-6-from-what-is-kept = kept-6 x
+-- both answers follow from what it keeps after the last." They are questions 6 and 7 as document 01 has them, the answer and the line that a no
+-- reports: 6 on every text, 7 on every text that question 5 lets through, whatever its edge lines.
+pub question-6-from-what-is-kept : (x : Text) → question6 (keptOf x) ≡ edgeLines x
+question-6-from-what-is-kept = kept-6
 
-  pub question-7-from-what-is-kept : question7 (keptOf x) ≡ edgesOut x
-  question-7-from-what-is-kept = kept-7 x through
+pub question-7-from-what-is-kept : (x : Text) → LetThrough x → question7 (keptOf x) ≡ edgesOut x
+question-7-from-what-is-kept = kept-7
 
 -- "With the same number and line for each text": read answers by the questions with these two in their places.
 pub read-by-one-walk : (l : Loan) (x : Text) (a : Answer) → Reads l x a → AnswersBy (walkedQuestions x) 4 (header x) a
@@ -283,7 +282,7 @@ read-by-one-walk l x = reads-walked x l
 
 -- What is supposed here can be had: what is defined may happen, a table fresh for a text, two cuttings of one machine, a list with messages, a
 -- rule within the limits, structures in which each state has an edge out, a look without a node that is accepted, jobs with EG and AG, a list
--- with steps of EG, a close that fills 1 and a message about it, and texts that question 5 lets through: every accepted one, and two that fail 6 and 7.
+-- with steps of EG, a close that fills 1 and a message about it, and texts that question 5 lets through: every accepted one, and one that fails 6 and 7.
 pub defined-may-happen : (l : Loan) (x : Text) → MayHappen l x
 defined-may-happen = may-happen
 
@@ -334,5 +333,6 @@ calls-all-along = ring-example
 pub accepted-texts-let-through : (x : Text) → Accepted x → LetThrough x
 accepted-texts-let-through = accepted-let-through
 
-pub let-through-and-wrong : LetThrough (bytes lowerJob) × LetThrough (bytes farJob)
-let-through-and-wrong = lower-far-through
+pub let-through-and-wrong :
+    LetThrough (bytes lowerJob) × (edgeLines (bytes lowerJob) .test ≡ false) × (edgesOut (bytes lowerJob) .test ≡ false)
+let-through-and-wrong = (lower-through, lower-fails .0, lower-fails .1)

@@ -16,7 +16,7 @@ use Rattle.job.specs.Layout.{states, edges, sourceField, targetField}
 use Rattle.job.specs.Questions.{ofLines, less, ascends, edgeOk, hasEdgeOut, edgeLines, edgesOut}
 use Rattle.layout.specs.Lines.{rightAfter}
 use Rattle.layout.proofs.LinesLaws.{right-first}
-use Rattle.edge_pass.specs.EdgePass.{start, isRight, orderAfter, after, keptAfter, keptOf, bareState, question6, question7}
+use Rattle.edge_pass.specs.EdgePass.{start, isRight, orderAfter, after, keptAfter, keptOf, terminalState, question6, question7}
 
 module _ (t : Text) where
   -- What is kept for question 6.
@@ -78,7 +78,7 @@ module _ (t : Text) where
   answer-6 = rw (kept-states (edges t), kept-lines (edges t), kept-right (edges t))
 
   pub answer-7 : states t ≤ 256 → question7 (keptOf t) ≡ edgesOut t
-  unfolding question7 keptOf edgesOut ofLines all bareState hasEdgeOut
+  unfolding question7 keptOf edgesOut ofLines all terminalState hasEdgeOut
   answer-7 few =
       let same = first-same _ _ (states t) (λ s l. kept-unmarked (edges t) s (omega arith)) in
       rw (kept-states (edges t), same)

@@ -27,7 +27,7 @@ start S =
 unfoldable pub isRight : Order → ℕ → ℕ → Bool
 isRight o a b = ltb a (o .states) && ltb b (o .states) && (eqb (o .lines) 0 || less (o .source) (o .target) a b)
 
--- What is kept after that line.
+-- For question 6, what is kept after that line.
 unfoldable pub orderAfter : Order → ℕ → ℕ → Order
 orderAfter o a b =
     record {
@@ -38,6 +38,7 @@ orderAfter o a b =
       target = b;
     }
 
+-- All that is kept after it: the state that it starts from is marked, if it is one of 256 (past the end `set` changes nothing).
 unfoldable pub after : Kept → ℕ → ℕ → Kept
 after k a b = record { order = orderAfter (k .order) a b; starts = set (k .starts) a 1 }
 
@@ -49,9 +50,9 @@ keptAfter t (suc e) = after (keptAfter t e) (sourceField t e) (targetField t e)
 unfoldable pub keptOf : Text → Kept
 keptOf t = keptAfter t (edges t)
 
--- The lowest of S states that is not marked, and S where all are.
-unfoldable pub bareState : List ℕ → ℕ → ℕ
-bareState starts S = first (λ s. eqb (getD starts s 0) 0) S
+-- The lowest of S states that is not marked, which no line starts from (a terminal state), and S where all are.
+unfoldable pub terminalState : List ℕ → ℕ → ℕ
+terminalState starts S = first (λ s. eqb (getD starts s 0) 0) S
 
 -- Both answers. Question 6 reports the first line that fails, question 7 the line of the lowest state that no line starts from.
 unfoldable pub question6 : Kept → Question
@@ -59,5 +60,5 @@ question6 k = record { number = 6; line = 2 + k .order .states + k .order .right
 
 unfoldable pub question7 : Kept → Question
 question7 k =
-    let bare = bareState (k .starts) (k .order .states) in
-    record { number = 7; line = 2 + bare; test = eqb bare (k .order .states) }
+    let terminal = terminalState (k .starts) (k .order .states) in
+    record { number = 7; line = 2 + terminal; test = eqb terminal (k .order .states) }

@@ -6,11 +6,11 @@ ghost use Prim.Native.Nat.{_≤_};
 ghost use lib.Dec.{eqb};
 ghost use lib.ListN.{length, set};
 ghost use Rattle.job.specs.Questions.{less};
-ghost use Rattle.edge_pass.specs.EdgePass.{isRight, orderAfter, bareState};
+ghost use Rattle.edge_pass.specs.EdgePass.{isRight, orderAfter, terminalState};
 use layout::lines::right_after;
 
 // For question 6, 40 bytes: the number of states, how many edge lines are behind, how many of them are right before the first that is not, and the
-// pair on the last of them.
+// pair on the last line behind, right or not.
 pub struct Order {
     pub states: usize,
     pub lines: usize,
@@ -87,9 +87,9 @@ pub fn mark_start(starts: &mut [u8; 256], source: usize)
 }
 
 // The lowest state that no edge line starts from, or how many states there are.
-pub fn bare_state(starts: &[u8; 256], states: usize) -> usize
+pub fn terminal_state(starts: &[u8; 256], states: usize) -> usize
     requires { ⌜ (length (now starts) ≡ 256) × (states ≤ 256) ⌝ }
-    ensures { λ r. ⌜ (r ≡ bareState (now (starts .entry)) states) × (r ≤ 256) ⌝ }
+    ensures { λ r. ⌜ (r ≡ terminalState (now (starts .entry)) states) × (r ≤ 256) ⌝ }
 {
     for s in 0..states {
         if starts[s] == 0 {

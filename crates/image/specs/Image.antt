@@ -1,6 +1,6 @@
 -- The decoded job as one array of words: the numbers of line 1, then regions, each at a named offset. `jobOf` is the job that such an array
 -- denotes, `IsImage` says that it is well made: its first part denotes a job of document 01, and each region behind it holds what is derived
--- from that job. That decoding an accepted text gives such an array, of that text's job, is the contract of `decode` in crate decoding. Assumes nothing.
+-- from that job. That decoding an accepted text gives such an array, of that text's job, is the contract of `read_image` in crate decoding. Assumes nothing.
 use Prim.Native.Nat.{ℕ, zero, suc, _+_, _*_, _<_, _≤_}
 use mathlib.Core.Path.{_≡_}
 use mathlib.Core.Bool.{Bool, cond, _&&_}

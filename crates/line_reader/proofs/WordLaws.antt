@@ -6,7 +6,7 @@ use native.Mathlib.Omega.{arith}
 use borrow.Author.Count.{below-none, below-more}
 use lib.ListN.{length, set, length-set}
 use lib.Seq.{getD-set-same, getD-set-other}
-use Rattle.image.specs.Image.{WORDS, word}
+use Rattle.image.specs.Image.{WORDS}
 use Rattle.line_reader.specs.LinesRead.{Holds, Changed}
 
 module _ (m : List ℕ) (region n : ℕ) (f : ℕ → ℕ) where

@@ -15,7 +15,7 @@ use Rattle.edge_pass.specs.declared.Kept.{Kept}
 use Rattle.image.specs.Image.{WORDS, OWNERS, LABELS, SOURCES, TARGETS, KINDS, LEFTS, RIGHTS, FIRST, word}
 use Rattle.line_reader.specs.declared.lines.Lines.{Lines}
 
--- The first n words of a region hold f 0, f 1, .., as far as these fit.
+-- The first n words of a region hold f 0, f 1, .., modulo 65,536.
 abbrev pub Holds : List ℕ → ℕ → ℕ → (ℕ → ℕ) → Type 0
 Holds m region n f = (i : ℕ) → i < n → word m region i ≡ f i % 65536
 

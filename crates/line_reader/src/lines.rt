@@ -13,7 +13,7 @@ pub struct Lines {
     pub right: usize,
 }
 
-// A number as the word at i, as far as it fits: the numbers of an accepted text do.
+// A number as the word at i, modulo 65,536: the numbers of an accepted text are below that.
 pub(crate) fn lay(m: &mut Image, i: usize, v: usize)
     requires { ⌜ (length (now m) ≡ WORDS) × (i < WORDS) ⌝ }
     ensures { λ _. ⌜ (now (m .exit) ≡ set (now (m .entry)) i (v % 65536)) × (length (now (m .exit)) ≡ WORDS) ⌝ }

@@ -18,8 +18,9 @@ use Rattle.edge_pass.specs.declared.Kept.{Kept}
 unfoldable pub firstFive : Text → List Question
 firstFive x = firstLine x ∷ ranges x ∷ textLength x ∷ lineFields x ∷ stateLines x ∷ []
 
-unfoldable pub LetThrough : Text → Type 0
-LetThrough x = refusal (firstFive x) ≡ opt.none
+pub record LetThrough (x : Text) : Type 0 where
+  -- none of them is answered no
+  pub none-fails : refusal (firstFive x) ≡ opt.none
 
 -- Questions 1 to 8, where 6 and 7 are answered from what the pass keeps after the last edge line.
 unfoldable pub walkedQuestions : Text → List Question

@@ -27,65 +27,60 @@ use Rattle.job.proofs.Formula.{parsed-stands, formula-is, fields-below}
 use Rattle.job.proofs.Places.{by-line, two-formed, three-formed}
 use Rattle.job.proofs.QuestionLaws.{refused-not-accepted, answered-yes, answered-no, answered-none}
 use Rattle.job.proofs.ReadLaws.{fields-pass, fields-refuse, read-passed}
-use Rattle.edge_pass.specs.EdgePass.{keptAfter, keptOf, bareState, question6, question7}
+use Rattle.edge_pass.specs.EdgePass.{keptAfter, keptOf, terminalState, question6, question7}
 use Rattle.edge_pass.specs.declared.Kept.{Kept}
 use Rattle.edge_pass.proofs.EdgePassLaws.{kept-states, kept-right, kept-marks, answer-6, answer-7}
 use Rattle.image.specs.Image.{OWNERS, LABELS, SOURCES, TARGETS, KINDS}
 use Rattle.line_reader.specs.LinesRead.{headerOf, LinesRead, HeadLaid, stateFormed, StatesLaid, StatesRead, edgeFormed, EdgesLaid, EdgesRead, formulaFormed, FormulasLaid, FormulasRead}
 use Rattle.line_reader.specs.declared.lines.Lines.{Lines}
-use Rattle.reader.specs.NumbersRead.{Askable, linesAsked, NumbersLaid, NumbersRead}
+use Rattle.reader.specs.NumbersRead.{Askable, question5, question8, linesAsked, NumbersLaid, NumbersRead}
 
 -- Questions 5 to 8, each the first that is answered no, or none.
 module _ (h : Header) (s : ℕ) (k : Kept) (f : ℕ) where
-  abbrev fifth : Question
-  fifth = record { number = 5; line = 2 + s; test = eqb s (h .states) }
-
-  abbrev eighth : Question
-  eighth = record { number = 8; line = 2 + h .states + h .edges + f; test = eqb f (h .subformulas) }
-
   abbrev asked : List Question → Answer
   asked qs = answered qs 4 (headerOf h)
 
   pub asked-5 : (s ≡ h .states → ⊥) → asked (linesAsked h s k f) ≡ refused 5 (2 + s) 4
-  unfolding linesAsked
-  asked-5 n = answered-no fifth _ 4 (headerOf h) (ne-eqb s (h .states) n)
+  unfolding linesAsked question5
+  asked-5 n = answered-no (question5 h s) _ 4 (headerOf h) (ne-eqb s (h .states) n)
 
   module _ (five : s ≡ h .states) where
-    behind-5 : asked (linesAsked h s k f) ≡ asked (question6 k ∷ question7 k ∷ eighth ∷ [])
-    unfolding linesAsked
-    behind-5 = answered-yes fifth _ 4 (headerOf h) (eq-eqb s (h .states) five)
+    behind-5 : asked (linesAsked h s k f) ≡ asked (question6 k ∷ question7 k ∷ question8 h f ∷ [])
+    unfolding linesAsked question5
+    behind-5 = answered-yes (question5 h s) _ 4 (headerOf h) (eq-eqb s (h .states) five)
 
     pub asked-6 :
         (k .order .right ≡ k .order .lines → ⊥) → asked (linesAsked h s k f) ≡ refused 6 (2 + k .order .states + k .order .right) 4
     unfolding question6
     asked-6 n = behind-5 ∙ answered-no (question6 k) _ 4 (headerOf h) (ne-eqb (k .order .right) (k .order .lines) n)
 
-    module _ (six : k .order .right ≡ k .order .lines) (bare : ℕ) (found : bare ≡ bareState (k .starts) (k .order .states)) where
-      behind-6 : asked (linesAsked h s k f) ≡ asked (question7 k ∷ eighth ∷ [])
+    module _ (six : k .order .right ≡ k .order .lines) (terminal : ℕ) (found : terminal ≡ terminalState (k .starts) (k .order .states)) where
+      behind-6 : asked (linesAsked h s k f) ≡ asked (question7 k ∷ question8 h f ∷ [])
       unfolding question6
       behind-6 = behind-5 ∙ answered-yes (question6 k) _ 4 (headerOf h) (eq-eqb (k .order .right) (k .order .lines) six)
 
-      pub asked-7 : (bare ≡ k .order .states → ⊥) → asked (linesAsked h s k f) ≡ refused 7 (2 + bare) 4
+      pub asked-7 : (terminal ≡ k .order .states → ⊥) → asked (linesAsked h s k f) ≡ refused 7 (2 + terminal) 4
       unfolding question7
       asked-7 n =
           behind-6
-          ∙ answered-no (question7 k) _ 4 (headerOf h) (ne-eqb (bareState (k .starts) (k .order .states)) (k .order .states) (λ e. n (found ∙ e)))
+          ∙ answered-no (question7 k) _ 4 (headerOf h) (ne-eqb (terminalState (k .starts) (k .order .states)) (k .order .states) (λ e. n (found ∙ e)))
           ∙ ap (λ b. refused 7 (2 + b) 4) (sym found)
 
-      module _ (seven : bare ≡ k .order .states) where
-        behind-7 : asked (linesAsked h s k f) ≡ asked (eighth ∷ [])
+      module _ (seven : terminal ≡ k .order .states) where
+        behind-7 : asked (linesAsked h s k f) ≡ asked (question8 h f ∷ [])
         unfolding question7
         behind-7 =
             behind-6
-            ∙ answered-yes (question7 k) _ 4 (headerOf h) (eq-eqb (bareState (k .starts) (k .order .states)) (k .order .states) (sym found ∙ seven))
+            ∙ answered-yes (question7 k) _ 4 (headerOf h) (eq-eqb (terminalState (k .starts) (k .order .states)) (k .order .states) (sym found ∙ seven))
 
         pub asked-8 : (f ≡ h .subformulas → ⊥) → asked (linesAsked h s k f) ≡ refused 8 (2 + h .states + h .edges + f) 4
-        asked-8 n = behind-7 ∙ answered-no eighth _ 4 (headerOf h) (ne-eqb f (h .subformulas) n)
+        unfolding question8
+        asked-8 n = behind-7 ∙ answered-no (question8 h f) _ 4 (headerOf h) (ne-eqb f (h .subformulas) n)
 
         pub asked-none : f ≡ h .subformulas → asked (linesAsked h s k f) ≡ accepted (headerOf h)
-        unfolding refusal
+        unfolding refusal question8
         asked-none y =
-            behind-7 ∙ answered-yes eighth _ 4 (headerOf h) (eq-eqb f (h .subformulas) y) ∙ answered-none [] 4 (headerOf h) refl
+            behind-7 ∙ answered-yes (question8 h f) _ 4 (headerOf h) (eq-eqb f (h .subformulas) y) ∙ answered-none [] 4 (headerOf h) refl
 
 -- What the first of n lines that is not well-formed says of the lines.
 module _ (isFormed : ℕ → Bool) (n b : ℕ) (found : b ≡ first (λ i. not (isFormed i)) n) where
@@ -177,12 +172,12 @@ module _
     unfolding keptOf
     kept-of = kept ∙ ap (keptAfter t) (sym (fits .edges-are))
 
-    asked-5-is : fifth h s k f ≡ stateLines t
-    unfolding stateLines ofLines all
+    asked-5-is : question5 h s ≡ stateLines t
+    unfolding question5 stateLines ofLines all
     asked-5-is = rw (states-right, fits .states-are)
 
-    asked-8-is : eighth h s k f ≡ formulaLines t
-    unfolding formulaLines ofLines all
+    asked-8-is : question8 h f ≡ formulaLines t
+    unfolding question8 formulaLines ofLines all
     asked-8-is = rw (formulas-right, fits .states-are, fits .edges-are, fits .subformulas-are)
 
     asked-are : linesAsked h s k f ≡ drop 4 (textQuestions t)

@@ -16,16 +16,17 @@ use Rattle.edge_pass.specs.EdgePass.{question6, question7}
 use Rattle.edge_pass.specs.declared.Kept.{Kept}
 use Rattle.image.specs.Image.{WORDS, OWNERS, LABELS, SOURCES, TARGETS, KINDS, LEFTS, RIGHTS, FIRST, word}
 
--- Questions 5 to 8, from what is known behind the last line.
-unfoldable pub linesAsked : Header → ℕ → Kept → ℕ → List Question
-linesAsked h states k subformulas =
-    record { number = 5; line = 2 + states; test = eqb states (h .states) }
-    ∷ question6 k
-    ∷ question7 k
-    ∷ record { number = 8; line = 2 + h .states + h .edges + subformulas; test = eqb subformulas (h .subformulas) }
-    ∷ []
+-- Questions 5 and 8 from how many of their lines are right before the first that is not, and 5 to 8 in order.
+unfoldable pub question5 : Header → ℕ → Question
+question5 h right = record { number = 5; line = 2 + right; test = eqb right (h .states) }
 
--- The numbers that lines are reported by are small.
+unfoldable pub question8 : Header → ℕ → Question
+question8 h right = record { number = 8; line = 2 + h .states + h .edges + right; test = eqb right (h .subformulas) }
+
+unfoldable pub linesAsked : Header → ℕ → Kept → ℕ → List Question
+linesAsked h states k subformulas = question5 h states ∷ question6 k ∷ question7 k ∷ question8 h subformulas ∷ []
+
+-- The numbers that lines are reported by are small, and there are 256 marks.
 pub record Askable (h : Header) (states : ℕ) (k : Kept) (subformulas : ℕ) : Type 0 where
   pub states-few : (h .states ≤ 256) × (states ≤ 256)
   pub edges-few : (h .edges ≤ 2048) × (k .order .right ≤ 2048)

@@ -7,7 +7,7 @@ ghost use Rattle.image.specs.Image.{WORDS};
 ghost use Rattle.line_reader.specs.LinesRead.{headerOf};
 ghost use Rattle.reader.specs.NumbersRead.{Askable, linesAsked, NumbersRead};
 use edge_pass::Kept;
-use edge_pass::bare_state;
+use edge_pass::terminal_state;
 use image::image::Image;
 use job::reading::Header;
 use job::reading::Reading;
@@ -18,25 +18,25 @@ use line_reader::formula::read_formulas;
 use line_reader::lines::lay_head;
 use line_reader::states::read_states;
 
-// Questions 5 to 8, where every line is well-formed: how many state lines and subformula lines are right before the first that is not, and what the
-// pass over the edge lines keeps.
-fn ask_lines(h: Header, states: usize, edges: Kept, subformulas: usize) -> Reading
-    requires { ⌜ Askable h states edges subformulas ⌝ }
-    ensures { λ r. ⌜ readTold r ≡ answered (linesAsked h states edges subformulas) 4 (headerOf h) ⌝ }
+// Questions 5 to 8, where every line is well-formed: s state lines and k subformula lines are right before the first that is not, and the pass over the
+// edge lines has kept this.
+fn ask_lines(h: Header, s: usize, kept: Kept, k: usize) -> Reading
+    requires { ⌜ Askable h s kept k ⌝ }
+    ensures { λ r. ⌜ readTold r ≡ answered (linesAsked h s kept k) 4 (headerOf h) ⌝ }
 {
-    if states != h.states {
-        return refuse(5, 2 + states);
+    if s != h.states {
+        return refuse(5, 2 + s);
     }
-    let order = edges.order;
+    let order = kept.order;
     if order.right != order.lines {
         return refuse(6, 2 + order.states + order.right);
     }
-    let bare = bare_state(&edges.starts, order.states);
-    if bare != order.states {
-        return refuse(7, 2 + bare);
+    let terminal = terminal_state(&kept.starts, order.states);
+    if terminal != order.states {
+        return refuse(7, 2 + terminal);
     }
-    if subformulas != h.subformulas {
-        return refuse(8, 2 + h.states + h.edges + subformulas);
+    if k != h.subformulas {
+        return refuse(8, 2 + h.states + h.edges + k);
     }
     Reading::Accepted(h)
 }

@@ -1,4 +1,4 @@
--- The numbers of a line, as far as it is well-formed: two for a state or an edge, three for a subformula. Assumes nothing.
+-- The numbers of a line, where it is well-formed: two for a state or an edge, three for a subformula. Assumes nothing.
 use Prim.Native.Nat.{ℕ, _+_}
 use mathlib.Core.Bool.{cond}
 use Rattle.text.specs.Field.{Text, numberAt, formed}

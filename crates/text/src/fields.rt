@@ -1,4 +1,4 @@
-// A line's fields, each looked at once: their numbers where the line is well-formed.
+// A line's fields, each parsed once: their numbers where the line is well-formed.
 ghost use mathlib.Core.Path.{_≡_};
 ghost use Prim.Native.Nat.{_+_, _<_};
 ghost use lib.ListN.{length};

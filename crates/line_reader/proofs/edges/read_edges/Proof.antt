@@ -1,8 +1,7 @@
 -- `read_edges`: the edge lines passed so far are well-formed, their numbers laid, and what is kept is the pass's after so many lines.
 use Prim.Native.Nat.{_-_, _≤_}
-use mathlib.Core.Path.{_≡_, sym, _∙_, ap}
+use mathlib.Core.Path.{sym, _∙_}
 use native.Mathlib.Omega.{arith}
-use lib.ListN.{length}
 use Rattle.text.specs.Field.{Text}
 use Rattle.job.specs.Leaves.{Fits}
 use Rattle.job.specs.declared.reading.Header.{Header}

@@ -1,6 +1,5 @@
 -- `is_state`: both tests.
 use borrow.Author.Tests.{lt-ltb, le-ltb}
-use borrow.Author.Needs.{needs}
 use Rattle.line_reader.proofs.states.is_state.Statement.{statement}
 use Rattle.line_reader.proofs.states.is_state.Tie as tie
 

@@ -1,6 +1,5 @@
 -- `ask_lines`: each return is the first of questions 5 to 8 that is answered no, or says that there is none.
 use mathlib.Core.Path.{sym, _∙_}
-use native.Mathlib.Omega.{arith}
 use Rattle.job.specs.Read.{readTold}
 use Rattle.reader.proofs.ReaderLaws.{asked-5, asked-6, asked-7, asked-8, asked-none}
 use borrow.Author.Needs.{needs}
@@ -17,29 +16,29 @@ returns-2 c =
 
 returns-3 : tie.Need-returns-3
 returns-3 c =
-    let bare = c .before .before .before in
-    let two = bare .before .before .before in
+    let terminal = c .before .before .before in
+    let two = terminal .before .before .before in
     c .refuse3 .ensures
-    ∙ sym (asked-7 _ _ _ _ (two .before .before .before .if1 .left) (two .if2 .left) _ (bare .bare-state .ensures .0) (c .before .if3 .taken))
+    ∙ sym (asked-7 _ _ _ _ (two .before .before .before .if1 .left) (two .if2 .left) _ (terminal .terminal-state .ensures .0) (c .before .if3 .taken))
 
 returns-4 : tie.Need-returns-4
 returns-4 c =
     let four = c .before .before .before in
     let three = four .before .before in
-    let bare = three .before .before in
-    let two = bare .before .before .before in
+    let terminal = three .before .before in
+    let two = terminal .before .before .before in
     c .refuse4 .ensures
     ∙ sym
-    (asked-8 _ _ _ _ (two .before .before .before .if1 .left) (two .if2 .left) _ (bare .bare-state .ensures .0) (three .if3 .left) (four .if4 .taken))
+    (asked-8 _ _ _ _ (two .before .before .before .if1 .left) (two .if2 .left) _ (terminal .terminal-state .ensures .0) (three .if3 .left) (four .if4 .taken))
 
 returns-5 : tie.Need-returns-5
 unfolding readTold
 returns-5 c =
     let three = c .before .before in
-    let bare = three .before .before in
-    let two = bare .before .before .before in
+    let terminal = three .before .before in
+    let two = terminal .before .before .before in
     sym
-    (asked-none _ _ _ _ (two .before .before .before .if1 .left) (two .if2 .left) _ (bare .bare-state .ensures .0) (three .if3 .left) (c .if4 .left))
+    (asked-none _ _ _ _ (two .before .before .before .if1 .left) (two .if2 .left) _ (terminal .terminal-state .ensures .0) (three .if3 .left) (c .if4 .left))
 
 pub ask-lines-spec : {M : Type 1} → statement M
 ask-lines-spec =

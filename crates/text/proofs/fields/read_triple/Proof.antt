@@ -1,5 +1,5 @@
 -- `read_triple`: a field, and the line of two that is left.
-use mathlib.Core.Path.{_≡_, sym, _∙_}
+use mathlib.Core.Path.{sym, _∙_}
 use Rattle.text.proofs.FieldsLaws.{triple-no-first, triple-no-rest, triple-read}
 use borrow.Author.Needs.{needs}
 use Rattle.text.proofs.fields.read_triple.Statement.{statement}
