@@ -122,6 +122,8 @@ def readings() -> Iterator[tuple[str, bytes]]:
     yield "last line malformed", put(last, 2, b"    -")
     yield "last edge to no state", put(last_edge, 1, b"  256")
     yield "first edge to no state", put(first_edge, 1, b"  256")
+    far = [(99_999, 99_999)] * sizes.edges
+    yield "ends of five digits", replace(job, edges=far).text()
     edges = generate.scattered(rng, sizes.states - 1, sizes.edges)
     yield "last state without an edge", replace(job, edges=edges).text()
     yield "last line of no kind", put(last, 0, b"    0")
