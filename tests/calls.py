@@ -404,14 +404,20 @@ def keep(shared: mmap.mmap, calls: int, case: Case) -> None:
     shared[16 : 16 + len(noted)] = noted
 
 
-def kept(shared: mmap.mmap) -> tuple[int, Case | None]:
-    """How many calls were begun, and the last of them."""
-    calls, length = (int.from_bytes(shared[i : i + 8], "little") for i in (0, 8))
+def begun(shared: mmap.mmap) -> int:
+    """How many calls were begun."""
+    return int.from_bytes(shared[:8], "little")
+
+
+def kept(shared: mmap.mmap) -> Case | None:
+    """The last of them, once the process at work has ended: until then it may be
+    written while it is read."""
+    length = int.from_bytes(shared[8:16], "little")
     if length == 0:
-        return calls, None
+        return None
     head, _, data = shared[16 : 16 + length].partition(b"\n")
     name, size, numbers, room = json.loads(head)
-    return calls, Case(name, data[:size], data[size:], tuple(numbers), room)
+    return Case(name, data[:size], data[size:], tuple(numbers), room)
 
 
 # --------------------------------------------------------------------------
@@ -971,14 +977,14 @@ def watch(child: int, shared: mmap.mmap) -> int:
         ended, status = os.waitpid(child, os.WNOHANG)
         if ended and os.WIFEXITED(status):
             return os.WEXITSTATUS(status)
-        now, case = kept(shared)
-        if now != calls:
-            calls, since = now, time.time()
+        if begun(shared) != calls:
+            calls, since = begun(shared), time.time()
         if ended or time.time() - since > SECONDS:
             if not ended:
                 os.kill(child, 9)
                 os.waitpid(child, 0)
             how = f"signal {os.WTERMSIG(status)}" if ended else f"no end in {SECONDS} s"
+            case = kept(shared)
             if case is not None:
                 Difference(case, model(case)[0], [], [how]).show()
             print(f"{calls} calls; the last one: {how}")
