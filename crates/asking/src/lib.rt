@@ -13,10 +13,11 @@ use questions::accept_no;
 use questions::close_no;
 use questions::look_no;
 use questions::offer_no;
+use questions::page_no;
 use questions::step_no;
 use questions::table_no;
 
-// A call with the numbers passed. Fresh, which decodes nothing, is not among them.
+// A call with the numbers passed, page with the length of its buffer. Fresh, which decodes nothing, is not among them.
 pub enum Asking {
     Step(usize),
     Offer(usize, usize),
@@ -24,6 +25,7 @@ pub enum Asking {
     Look(usize, usize, usize),
     Close,
     Finish,
+    Page(usize, usize),
 }
 
 // The number of the first no to a call's own questions, 0 where there is none.
@@ -38,6 +40,7 @@ fn own_no(m: &Image, table: &[u8], call: Asking) -> u8
         Asking::Look(n, s, k) => look_no(m, table, n, s, k),
         Asking::Close => close_no(m, table),
         Asking::Finish => table_no(m, table),
+        Asking::Page(n, room) => page_no(m, table, n, room),
     }
 }
 

@@ -1,4 +1,4 @@
--- What each case of a call's enum says, in document 01's numbers. Assumes nothing.
+-- What each case of a call's enum says, in the documents' numbers. Assumes nothing.
 use Prim.Native.Nat.{ℕ}
 use mathlib.Core.List.{[], _∷_}
 use Rattle.job.specs.Answer.{Answer, accepted, refused}
@@ -10,6 +10,7 @@ use Rattle.calls.specs.declared.accept.Delivered as delivered
 use Rattle.calls.specs.declared.look.Looked as looked
 use Rattle.calls.specs.declared.close.Closed as closed
 use Rattle.calls.specs.declared.finish.Finished as finished
+use Rattle.calls.specs.declared.page.Paged as paged
 
 abbrev by : Refusal → ℕ → Answer
 by why others = refused (why .number) (why .line) others
@@ -41,6 +42,10 @@ closeTold (closed.the-variants.Refused why) = by why 2
 unfoldable pub finishTold : finished.Finished → Answer
 finishTold (finished.the-variants.Accepted o) = accepted (o .verdict ∷ o .rounds ∷ o .cells ∷ [])
 finishTold (finished.the-variants.Refused why) = by why 3
+
+unfoldable pub pageTold : paged.Paged → Answer
+pageTold paged.the-variants.Accepted = accepted []
+pageTold (paged.the-variants.Refused why) = by why 0
 
 -- The rounds done, 0 where finish is refused.
 unfoldable pub finishRounds : finished.Finished → ℕ

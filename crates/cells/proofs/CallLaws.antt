@@ -28,12 +28,12 @@ use Rattle.job.specs.declared.reading.Reading.the-variants.{Accepted as Taken, 
 use Rattle.job.proofs.QuestionLaws.{noNumber-yes, noNumber-no, later-accepted, later-refused}
 use Rattle.job.proofs.ReadLaws.{text-refuses, reading-refuses, size-told, subformulas-told, nodes-told}
 use Rattle.cells.specs.Table.{Table, tableLength, freshTable}
-use Rattle.cells.specs.Questions.{tableSize, tableCells, nodeBelow, nodeOr255, numbersBelow, temporalNamed, ownerFilled, truthValue, stateAtBorder, cellAgrees, stateInFragment, tableSettled, someOwnerEmpty}
-use Rattle.cells.specs.Calls.{Call, fresh, step, offer, accept, look, close, finish, told, left, nodeRead, ownQuestions, questions, width, answer, after}
+use Rattle.cells.specs.Questions.{tableSize, tableCells, nodeBelow, nodeOr255, numbersBelow, temporalNamed, ownerFilled, truthValue, stateAtBorder, cellAgrees, stateInFragment, tableSettled, someOwnerEmpty, pageFits}
+use Rattle.cells.specs.Calls.{Call, fresh, step, offer, accept, look, close, finish, page, told, left, nodeRead, ownQuestions, questions, width, answer, after}
 
--- Questions 9 to 20 have a number and no line.
+-- Questions 9 to 20 and 24 have a number and no line.
 own-questions : (c : Call) (J : Job) (t : Table) → every isOwn (ownQuestions c J t) ≡ true
-unfolding every isOwn ofCall ownQuestions tableSize tableCells nodeBelow nodeOr255 numbersBelow temporalNamed ownerFilled truthValue stateAtBorder cellAgrees stateInFragment tableSettled someOwnerEmpty
+unfolding every isOwn ofCall ownQuestions tableSize tableCells nodeBelow nodeOr255 numbersBelow temporalNamed ownerFilled truthValue stateAtBorder cellAgrees stateInFragment tableSettled someOwnerEmpty pageFits
 own-questions fresh J t = refl
 own-questions (step n) J t = refl
 own-questions (offer s k) J t = refl
@@ -41,6 +41,7 @@ own-questions (accept n s k v) J t = refl
 own-questions (look n s k) J t = refl
 own-questions close J t = refl
 own-questions finish J t = refl
+own-questions (page n room) J t = refl
 
 module _ (c : Call) (x : Text) (t : Table) where
   -- refused by the reader

@@ -8,7 +8,7 @@ use Rattle.law.specs.Lists.{from, tab, flatten, every, some}
 use Rattle.law.specs.Fixpoint.{member, pass, passes, least, greatest}
 use Rattle.job.specs.Question.{ofCall, allYes, refusal, answered, afterwards}
 use Rattle.job.specs.Questions.{ofLineOne, ofLines, firstLine, ranges, textLength, lineFields, stateLines, edgeLines, edgesOut, formulaLines, headQuestions, lineQuestions, textQuestions, within, inRanges, formedLine, stateOk, less, ascends, edgeOk, hasEdgeOut, formulaOk}
-use Rattle.cells.specs.Questions.{tableSize, tableCells, nodeBelow, nodeOr255, numbersBelow, temporalNamed, ownerFilled, truthValue, stateAtBorder, cellAgrees, stateInFragment, tableSettled, someOwnerEmpty}
+use Rattle.cells.specs.Questions.{tableSize, tableCells, nodeBelow, nodeOr255, numbersBelow, temporalNamed, ownerFilled, truthValue, stateAtBorder, cellAgrees, stateInFragment, tableSettled, someOwnerEmpty, pageFits}
 use Rattle.text.specs.Field.{digits, columns, field, wellFormed, value, numberAt, formed}
 use Rattle.job.specs.Layout.{states, edges, subformulas, nodes, lengthOf, stateAt, edgeAt, subformulaAt, ownerField, labelField, sourceField, targetField, kindField, leftField, rightField, lines, fieldsOf, lineAt}
 use Rattle.job.specs.Job.{owner as job-owner, atom, edge, dual, over, size, subformulaCount, subformula, decode}
@@ -28,7 +28,7 @@ use Rattle.cells.specs.LookWithoutNode.{lookWithoutNode}
 use Rattle.cells.specs.AllAlong.{ringJob, impliesJob, lineJob, lineTable, allAlong, couldJoinBoth}
 
 unfoldable pub printed : map computed cases ≡ cases
-unfolding first all any count from tab flatten every some member pass passes least greatest digits columns field wellFormed value numberAt formed states edges subformulas nodes lengthOf stateAt edgeAt subformulaAt ownerField job-owner labelField sourceField targetField kindField leftField calls-left rightField lines fieldsOf lineAt atomic unary binary parsed isFormula formula ofCall allYes refusal Option·elim answered afterwards ofLineOne ofLines firstLine ranges textLength lineFields stateLines edgeLines edgesOut formulaLines headQuestions lineQuestions textQuestions within inRanges formedLine stateOk less ascends edgeOk hasEdgeOut formulaOk numbers readAnswer readTold lineOf atom edge dual over size subformulaCount subformula decode owns inFragment edgeOut border inner tableLength index nodeOf stateOf subformulaOf cell ownerCell isEmpty inside cellsRight freshTable fillAt fill filled emptyCells joins smallest stays largest bySets opposite both next known column stepColumn stepUpTo stepTable isTemporal acceptTable copyTable stepsDone copiesDone settled open? smallestOpen someOpen closeTable stepsUpTo exchange closing round roundsFrom finish finish-verdict verdictCalls tableSize tableCells nodeBelow nodeOr255 numbersBelow temporalNamed ownerFilled truthValue stateAtBorder cellAgrees stateInFragment tableSettled someOwnerEmpty nodeRead ownQuestions questions width told answer after bytes answers tableAfter jobV job2 job3 job4 job6 job10 cases zeros computedFrom computed
+unfolding first all any count from tab flatten every some member pass passes least greatest digits columns field wellFormed value numberAt formed states edges subformulas nodes lengthOf stateAt edgeAt subformulaAt ownerField job-owner labelField sourceField targetField kindField leftField calls-left rightField lines fieldsOf lineAt atomic unary binary parsed isFormula formula ofCall allYes refusal Option·elim answered afterwards ofLineOne ofLines firstLine ranges textLength lineFields stateLines edgeLines edgesOut formulaLines headQuestions lineQuestions textQuestions within inRanges formedLine stateOk less ascends edgeOk hasEdgeOut formulaOk numbers readAnswer readTold lineOf atom edge dual over size subformulaCount subformula decode owns inFragment edgeOut border inner tableLength index nodeOf stateOf subformulaOf cell ownerCell isEmpty inside cellsRight freshTable fillAt fill filled emptyCells joins smallest stays largest bySets opposite both next known column stepColumn stepUpTo stepTable isTemporal acceptTable copyTable stepsDone copiesDone settled open? smallestOpen someOpen closeTable stepsUpTo exchange closing round roundsFrom finish finish-verdict verdictCalls tableSize tableCells nodeBelow nodeOr255 numbersBelow temporalNamed ownerFilled truthValue stateAtBorder cellAgrees stateInFragment tableSettled someOwnerEmpty pageFits nodeRead ownQuestions questions width told answer after bytes answers tableAfter jobV job2 job3 job4 job6 job10 cases zeros computedFrom computed
 printed = refl
 
 -- by the same definitions

@@ -1,6 +1,6 @@
--- Document 01, "The questions put to a call", 9 to 20, each of the job, the table and the numbers passed. They are about no line.
--- Assumes nothing.
-use Prim.Native.Nat.{ℕ}
+-- Document 01, "The questions put to a call", 9 to 20, and document 02's 24, each of the job, the table and the numbers passed. They are about no
+-- line. Assumes nothing.
+use Prim.Native.Nat.{ℕ, _+_, _*_}
 use mathlib.Core.Bool.{not, _&&_, _||_}
 use lib.ListN.{length}
 use lib.Dec.{ltb, leb, eqb}
@@ -60,3 +60,7 @@ tableSettled J t = ofCall 19 (settled J t)
 -- "Is some owner's cell empty? No: 20."
 unfoldable pub someOwnerEmpty : Job → Table → Question
 someOwnerEmpty J t = ofCall 20 (someOpen J t)
+
+-- Document 02 (v): "24 the buffer is shorter than 80 × (S + 1)", which has so many bytes.
+unfoldable pub pageFits : Job → ℕ → Question
+pageFits J room = ofCall 24 (leb (80 * (size J + 1)) room)

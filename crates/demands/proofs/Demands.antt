@@ -1,12 +1,13 @@
 -- The demands and what the change requests promise, sentence by sentence and in their words, each proved by citing what did the work. What a call
 -- comes to is said by its function's contract: `Happens l x c t a u`, the call c with text x on table t answers a and leaves u; `Rules l x b a u`,
--- rule with text x on buffer b answers a and leaves u. The words are those of `promises/specs`. Assumes nothing.
+-- rule with text x on buffer b answers a and leaves u; `Pages l x t n b a w`, page of node n with text x and table t on buffer b answers a and leaves
+-- w. The words are those of `promises/specs`. Assumes nothing.
 use Prim.Native.Nat.{ℕ, suc, _<_, _≤_}
 use mathlib.Core.Path.{_≡_}
 use mathlib.Core.Bool.{true, false}
 use mathlib.Core.List.{List, [], _∷_, _++_}
 use mathlib.Core.Logic.{_↔_}
-use lib.ListN.{length}
+use lib.ListN.{length, take}
 use Rattle.text.specs.Field.{Text}
 use Rattle.job.specs.Job.{Job, Structure, forAll, exists, size, subformulaCount, subformula, owner, decode}
 use Rattle.job.specs.Answer.{Answer, accepted, refused}
@@ -21,7 +22,7 @@ use Rattle.ctl.proofs.Total.{State, Total, total-job}
 use Rattle.cells.specs.Table.{Table, cell, ownerCell}
 use Rattle.cells.specs.SetRule.{SetRule}
 use Rattle.cells.specs.Close.{isTemporal}
-use Rattle.cells.specs.Calls.{Call, step, offer, accept, look, close, finish, questions, width, told}
+use Rattle.cells.specs.Calls.{Call, step, offer, accept, look, close, finish, page, questions, width, told}
 use Rattle.cells.specs.Cases.{bytes, jobV, job2, job3}
 use Rattle.cells.specs.AllAlong.{ringJob, impliesJob}
 use Rattle.rule_text.specs.declared.token.Prefix.{Prefix as PrefixOperator}
@@ -34,13 +35,14 @@ use Rattle.rule_text.proofs.Reading.{means-one}
 use Rattle.rule_text.proofs.RuleTruth.{rule-truth}
 use Rattle.rule_text.proofs.Prefixes.{prefix-means}
 use Rattle.rule_text.proofs.Worked.{exampleRule, example-limits}
-use Rattle.promises.specs.Contracts.{Loan, Happens, Reads, HandsBack, Prints, Rules, PrintsRule, MayHappen}
+use Rattle.promises.specs.Contracts.{Loan, Happens, Reads, HandsBack, Prints, Rules, PrintsRule, Pages, PrintsPage, MayHappen}
 use Rattle.promises.specs.Demand1.{AnswersBy}
 use Rattle.promises.specs.Demand2.{Accepts, JobText, FilledByRules, SmallestAndLargest, Judged}
 use Rattle.promises.specs.Demand3.{FreshFor, ListOfCalls, leftBy, callsOf, AsDefined, CellsTrue, OneMoreFinish, OneMachine}
 use Rattle.promises.specs.UnnamedNode.{unnamedQuestions, unknownNodeQuestions}
 use Rattle.promises.specs.AllAlong.{HasLine, FilledAllAlong, ClosedByKind, kindsAdmitted}
 use Rattle.promises.specs.OneWalk.{LetThrough, walkedQuestions, bytesKept, lowerJob}
+use Rattle.promises.specs.OnPaper.{pageBytes, PageWritten, SameCells, PagePrinted}
 use Rattle.promises.specs.RuleText.{LinesWritten, LastLineIsTruth, LinesInOrder, InJob, RulePrinted}
 use Rattle.demands.specs.Functions.{AsksNothing, Proved}
 use Rattle.demands.proofs.Proved.{asks-nothing, proved}
@@ -54,7 +56,8 @@ use Rattle.promises.proofs.RuleText.{rules-first, rules-stay, rules-exact, rule
 use Rattle.promises.proofs.UnnamedNode.{happens-named, happens-owner, happens-unnamed, happens-never-18, happens-step-255, happens-accept-255}
 use Rattle.promises.proofs.AllAlong.{eg-walks, ag-walks, eg-ag-temporal, happens-eg, happens-ag, happens-closed, question-8}
 use Rattle.promises.proofs.OneWalk.{line-alone, kept-small, kept-6, kept-7, reads-walked, accepted-let-through, lower-through, lower-fails}
-use Rattle.promises.proofs.Hypotheses.{lent, fresh-for, one-machine, example, looked, has-eg, has-ag, ring-example}
+use Rattle.promises.proofs.OnPaper.{pages-first, pages-stay, pages-written, pages-agree, prints-page}
+use Rattle.promises.proofs.Hypotheses.{lent, fresh-for, one-machine, example, looked, has-eg, has-ag, ring-example, page-example, paged}
 
 -- Demand 1. "Any bytes and any numbers:
 pub any-bytes-and-any-numbers : AsksNothing
@@ -280,9 +283,36 @@ question-7-from-what-is-kept = kept-7
 pub read-by-one-walk : (l : Loan) (x : Text) (a : Answer) → Reads l x a → AnswersBy (walkedQuestions x) 4 (header x) a
 read-by-one-walk l x = reads-walked x l
 
+-- Request (v), the table on paper. "Errors: 24 the buffer is shorter than 80 × (S + 1), asked after 11."
+module _ (l : Loan) (x : Text) (t : Table) (n : ℕ) (b : List ℕ) where
+  pub page-reads-or-refuses : (a : Answer) (w : List ℕ) → Pages l x t n b a w → AnswersBy (questions (page n (length b)) x t) 0 [] a
+  page-reads-or-refuses = pages-first l x t n b
+
+  pub refused-page-changes-nothing : (number line others : ℕ) (w : List ℕ) → Pages l x t n b (refused number line others) w → w ≡ b
+  refused-page-changes-nothing = pages-stay l x t n b
+
+  -- "Write one node's table as lines of exactly 79 columns and byte 10. [..] There are S + 1 lines in a lent buffer, and bytes past them stay." What
+  -- stands in the column of a state and a subformula is its cell.
+  pub page-is-written : (own w : List ℕ) → Pages l x t n b (accepted own) w → PageWritten (decode x) t n b w
+  page-is-written = pages-written l x t n b
+
+-- "Equal pages for one job mean equal cells of that node", and equal cells equal pages.
+pub equal-pages-equal-cells :
+    (x : Text) (n : ℕ) (t u : Table) (l m : Loan) (b c v w own told : List ℕ)
+    → Pages l x t n b (accepted own) v
+    → Pages m x u n c (accepted told) w
+    → (take (pageBytes (decode x)) v ≡ take (pageBytes (decode x)) w) ↔ SameCells (decode x) n t u
+equal-pages-equal-cells = pages-agree
+
+-- A list of calls may have pages in it: that is `demand-3`, of whose calls page is one. What the program page prints is the page of the table after
+-- finish from fresh, so each mark on it is the CTL truth, or the two numbers of the refusal.
+pub printed-page-is-truth : (l : Loan) (argument x : Text) (said : List ℕ) → PrintsPage l x argument said → PagePrinted argument x said
+printed-page-is-truth = prints-page
+
 -- What is supposed here can be had: what is defined may happen, a table fresh for a text, two cuttings of one machine, a list with messages, a
 -- rule within the limits, structures in which each state has an edge out, a look without a node that is accepted, jobs with EG and AG, a list
--- with steps of EG, a close that fills 1 and a message about it, and texts that question 5 lets through: every accepted one, and one that fails 6 and 7.
+-- with steps of EG, a close that fills 1 and a message about it, texts that question 5 lets through: every accepted one, and one that fails 6 and 7;
+-- a list with pages, accepted and refused, and a page that is accepted whatever the buffer of enough bytes holds.
 pub defined-may-happen : (l : Loan) (x : Text) → MayHappen l x
 defined-may-happen = may-happen
 
@@ -336,3 +366,18 @@ accepted-texts-let-through = accepted-let-through
 pub let-through-and-wrong :
     LetThrough (bytes lowerJob) × (edgeLines (bytes lowerJob) .test ≡ false) × (edgesOut (bytes lowerJob) .test ≡ false)
 let-through-and-wrong = (lower-through, lower-fails .0, lower-fails .1)
+
+pub calls-with-pages :
+    (calls : ListOfCalls (bytes jobV))
+    × (callsOf calls
+    ≡ (page 0 240, accepted [])
+    ∷ (step 0, accepted (4 ∷ []))
+    ∷ (page 0 240, accepted [])
+    ∷ (page 0 239, refused 24 0 0)
+    ∷ (page 2 239, refused 11 0 0)
+    ∷ [])
+calls-with-pages = page-example
+
+pub a-page-accepted :
+    (t : Table) × ((b : List ℕ) → length b ≡ 240 → (w : List ℕ) × Pages lent (bytes jobV) t 0 b (accepted []) w)
+a-page-accepted = paged

@@ -8,9 +8,11 @@ use Rattle.calls.proofs.accept.accept.Met.{met as accept-met}
 use Rattle.calls.proofs.look.look.Met.{met as look-met}
 use Rattle.calls.proofs.close.close.Met.{met as close-met}
 use Rattle.calls.proofs.finish.finish.Met.{met as finish-met}
+use Rattle.calls.proofs.page.page.Met.{met as page-met}
 use Rattle.verdict_line.proofs.verdict_line.Met.{met as verdict-line-met}
 use Rattle.rule_call.proofs.rule.rule.Met.{met as rule-met}
 use Rattle.rule_output.proofs.rule_output.Met.{met as rule-output-met}
+use Rattle.page_output.proofs.page_output.Met.{met as page-output-met}
 use Rattle.demands.specs.Functions.{AsksNothing, Proved}
 
 pub asks-nothing : AsksNothing
@@ -25,9 +27,11 @@ asks-nothing =
       look = λ κs a. tt;
       close = λ κs a. tt;
       finish = λ κs a. tt;
+      page = λ κs a. tt;
       verdictLine = λ κs a. tt;
       rule = λ κs a. tt;
       ruleOutput = λ κs a. tt;
+      pageOutput = λ κs a. tt;
     }
 
 pub proved : {M : Type 1} → Proved M
@@ -42,7 +46,9 @@ proved =
       look = look-met;
       close = close-met;
       finish = finish-met;
+      page = page-met;
       verdictLine = verdict-line-met;
       rule = rule-met;
       ruleOutput = rule-output-met;
+      pageOutput = page-output-met;
     }

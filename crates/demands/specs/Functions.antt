@@ -29,6 +29,9 @@ use Rattle.calls.proofs.close.close.Statement.{statement as close-meets}
 use Rattle.calls.proofs.finish.finish.Kinds.{ps as finish-takes}
 use Rattle.calls.proofs.finish.finish.Reads.{Asked as finish-asks}
 use Rattle.calls.proofs.finish.finish.Statement.{statement as finish-meets}
+use Rattle.calls.proofs.page.page.Kinds.{ps as page-takes}
+use Rattle.calls.proofs.page.page.Reads.{Asked as page-asks}
+use Rattle.calls.proofs.page.page.Statement.{statement as page-meets}
 use Rattle.verdict_line.proofs.verdict_line.Kinds.{ps as verdict-line-takes}
 use Rattle.verdict_line.proofs.verdict_line.Reads.{Asked as verdict-line-asks}
 use Rattle.verdict_line.proofs.verdict_line.Statement.{statement as verdict-line-meets}
@@ -38,6 +41,9 @@ use Rattle.rule_call.proofs.rule.rule.Statement.{statement as rule-meets}
 use Rattle.rule_output.proofs.rule_output.Kinds.{ps as rule-output-takes}
 use Rattle.rule_output.proofs.rule_output.Reads.{Asked as rule-output-asks}
 use Rattle.rule_output.proofs.rule_output.Statement.{statement as rule-output-meets}
+use Rattle.page_output.proofs.page_output.Kinds.{ps as page-output-takes}
+use Rattle.page_output.proofs.page_output.Reads.{Asked as page-output-asks}
+use Rattle.page_output.proofs.page_output.Statement.{statement as page-output-meets}
 
 -- "Any bytes and any numbers": no contract asks anything of what is passed.
 pub record AsksNothing : Type 0 where
@@ -50,9 +56,11 @@ pub record AsksNothing : Type 0 where
   pub look : (κs : Lfts 2) (a : Dens κs look-takes) → look-asks κs a
   pub close : (κs : Lfts 2) (a : Dens κs close-takes) → close-asks κs a
   pub finish : (κs : Lfts 2) (a : Dens κs finish-takes) → finish-asks κs a
+  pub page : (κs : Lfts 3) (a : Dens κs page-takes) → page-asks κs a
   pub verdictLine : (κs : Lfts 1) (a : Dens κs verdict-line-takes) → verdict-line-asks κs a
   pub rule : (κs : Lfts 2) (a : Dens κs rule-takes) → rule-asks κs a
   pub ruleOutput : (κs : Lfts 1) (a : Dens κs rule-output-takes) → rule-output-asks κs a
+  pub pageOutput : (κs : Lfts 2) (a : Dens κs page-output-takes) → page-output-asks κs a
 
 -- "every call ends": each function meets its contract, in every model of Rattle's logic. To meet a contract is, called with what it asks
 -- for, to return, and to leave what it promises (total correctness).
@@ -66,6 +74,8 @@ pub record Proved (M : Type 1) : Type 2 where
   pub look : look-meets M
   pub close : close-meets M
   pub finish : finish-meets M
+  pub page : page-meets M
   pub verdictLine : verdict-line-meets M
   pub rule : rule-meets M
   pub ruleOutput : rule-output-meets M
+  pub pageOutput : page-output-meets M

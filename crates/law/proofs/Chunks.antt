@@ -1,13 +1,15 @@
 -- A list made of chunks of one width w: where its i-th chunk stands, its length, and that a list with these chunks is made of
 -- them. Assumes nothing.
 use Prim.Native.Nat.{ℕ, zero, suc, _+_, _*_, _<_}
-use mathlib.Core.Path.{_≡_, sym, _∙_, ap, ap₂}
-use mathlib.Core.List.{List, _++_, append-assoc}
+use mathlib.Core.Path.{_≡_, refl, sym, _∙_, ap, ap₂}
+use mathlib.Core.List.{List, [], _++_, append-assoc, append-nil}
+use mathlib.Core.Bool.{Bool, true}
 use native.Mathlib.Nat.{not-suc-le-zero, le-of-suc-le-suc, add-zero, add-suc, suc-add, mul-zero, mul-suc, add-comm, zero-add, add-assoc}
 use native.Mathlib.Omega.{arith}
-use lib.ListN.{length, take, drop, length-append}
-use lib.Seq.{take-at, drop-append-add, take-add, drop-drop}
-use Rattle.law.specs.Lists.{from, tab, flatten}
+use lib.ListN.{length, take, drop, getD, length-append}
+use lib.Seq.{take-at, drop-append-add, take-add, drop-drop, getD-take, getD-drop}
+use Rattle.law.specs.Lists.{from, tab, flatten, every}
+use Rattle.law.proofs.Lists.{every-append}
 
 -- one chunk more, counted in front, where the lists are taken apart
 mul-next : (w n : ℕ) → w * suc n ≡ w + w * n
@@ -43,6 +45,22 @@ module _ {A : Type 0} (w : ℕ) (f : ℕ → List A) (wide : (i : ℕ) → lengt
   unfolding tab
   chunk-at n i a front rest e l =
       rw (drop-add front (flatten (from f 0 n) ++ rest) a (w * i) e) (from-chunk n 0 i rest l ∙ ap f (zero-add i))
+
+  -- and its element j
+  pub chunk-element : (n i j : ℕ) (d : A) → i < n → j < w → getD (flatten (tab f n)) (w * i + j) d ≡ getD (f i) j d
+  chunk-element n i j d l h =
+      let whole = flatten (tab f n) in
+      let here : take w (drop (w * i) whole) ≡ f i = rw (zero-add, append-nil) at (chunk-at n i 0 [] [] refl l) in
+      sym (getD-drop (w * i) whole j d) ∙ sym (getD-take w (drop (w * i) whole) j d h) ∙ ap (λ (c : List A). getD c j d) here
+
+-- What is so of every element of every chunk.
+pub every-chunk : {A : Type 0} (p : A → Bool) (f : ℕ → List A) → ((i : ℕ) → every p (f i) ≡ true) → (n : ℕ) → every p (flatten (tab f n)) ≡ true
+unfolding tab from flatten every
+every-chunk p f each n = go n 0
+  where
+    go : (n i : ℕ) → every p (flatten (from f i n)) ≡ true
+    go zero i = refl
+    go (suc n) i = every-append p (f i) (flatten (from f (suc i) n)) (each i) (go n (suc i))
 
 -- and a list that has the chunk f i at each place i is made of them there
 module _ {A : Type 0} (w : ℕ) (f : ℕ → List A) (t : List A) where

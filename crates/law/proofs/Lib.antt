@@ -5,3 +5,4 @@ pub mod Lists
 pub mod Least
 pub mod Greatest
 pub mod Chunks
+pub mod Pieces

@@ -2,7 +2,7 @@
 ghost use mathlib.Core.Path.{_≡_};
 ghost use Rattle.job.specs.Answer.{numbers};
 ghost use Rattle.job.specs.Read.{readTold};
-ghost use Rattle.calls.specs.Told.{freshTold, stepTold, offerTold, acceptTold, lookTold, closeTold, finishTold};
+ghost use Rattle.calls.specs.Told.{freshTold, stepTold, offerTold, acceptTold, lookTold, closeTold, finishTold, pageTold};
 ghost use Rattle.rule_call.specs.Ruled.{ruledTold};
 use calls::accept::Delivered;
 use calls::close::Closed;
@@ -10,6 +10,7 @@ use calls::finish::Finished;
 use calls::fresh::Cleared;
 use calls::look::Looked;
 use calls::offer::Offered;
+use calls::page::Paged;
 use calls::step::Stepped;
 use job::reading::Reading;
 use rule_call::rule::Ruled;
@@ -83,6 +84,15 @@ pub fn of_finish(r: Finished) -> [usize; 5]
     match r {
         Finished::Accepted(o) => [0, 0, o.verdict as usize, o.rounds, o.cells],
         Finished::Refused(why) => [why.number as usize, why.line, 0, 0, 0],
+    }
+}
+
+pub fn of_page(r: Paged) -> [usize; 2]
+    ensures { λ a. ⌜ a ≡ numbers (pageTold r) ⌝ }
+{
+    match r {
+        Paged::Accepted => [0, 0],
+        Paged::Refused(why) => [why.number as usize, why.line],
     }
 }
 

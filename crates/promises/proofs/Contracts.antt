@@ -1,9 +1,9 @@
 -- What the contract of a call promises is what is defined, no less and no more: the definitions' answer and table are a way for it to
 -- happen, and the only one. Assumes nothing.
 use Prim.Native.Nat.{ℕ, _+_, _≤_}
-use mathlib.Core.Path.{_≡_, refl, sym, _∙_}
+use mathlib.Core.Path.{_≡_, refl, sym, _∙_, ap, subst}
 use mathlib.Core.List.{List, [], _∷_}
-use lib.ListN.{length, take}
+use lib.ListN.{length, take, replicate, length-replicate}
 use lib.Seq.{take-length}
 use native.Mathlib.Nat.{le-refl}
 use mathlib.Core.Option as opt
@@ -24,9 +24,9 @@ use Rattle.cells.specs.Close.{smallestOpen, closeTable}
 use Rattle.cells.specs.Finish as finishing
 use Rattle.job.proofs.QuestionLaws.{by-refusal, answered-none, answered-some, accepted-own, afterwards-none, afterwards-some}
 use Rattle.cells.proofs.Finish.{finish-rounds}
-use Rattle.cells.specs.Calls.{Call, fresh, step, offer, accept, look, close, finish, questions, width, told, left, answer, after}
+use Rattle.cells.specs.Calls.{Call, fresh, step, offer, accept, look, close, finish, page, questions, width, told, left, answer, after}
 use Rattle.calls.specs.declared.fresh.Cleared as cleared
-use Rattle.calls.specs.Told.{freshTold, stepTold, offerTold, acceptTold, lookTold, closeTold, finishTold, finishRounds}
+use Rattle.calls.specs.Told.{freshTold, stepTold, offerTold, acceptTold, lookTold, closeTold, finishTold, finishRounds, pageTold}
 use Rattle.calls.specs.declared.step.Stepped as stepped
 use Rattle.calls.specs.declared.offer.Offered as offered
 use Rattle.calls.specs.declared.accept.Delivered as delivered
@@ -35,15 +35,29 @@ use Rattle.closing.specs.declared.Closing as closing
 use Rattle.calls.specs.declared.close.Closed as closed
 use Rattle.rounds.specs.declared.finish.Outcome as outcome
 use Rattle.calls.specs.declared.finish.Finished as finished
+use Rattle.calls.specs.declared.page.Paged as paged
+use Rattle.page_text.specs.PageCall.{pageBuffer}
+use Rattle.page_output.specs.PageOutput.{pageOutput}
 use Rattle.verdict_line.specs.VerdictLine.{verdictLine}
 use Rattle.rule_text.specs.RuleCall.{ruleLines, ruleQuestions, ruleAnswer, ruleBuffer}
 use Rattle.rule_call.specs.Ruled.{ruledTold}
 use Rattle.rule_call.specs.declared.rule.Ruled.{Ruled}
 use Rattle.rule_call.specs.declared.rule.Ruled.the-variants as ruled
 use Rattle.rule_output.specs.RuleOutput.{ruleOutput}
-use Rattle.promises.specs.Contracts.{Loan, Happens, Reads, HandsBack, Prints, Rules, PrintsRule, MayHappen}
+use Rattle.promises.specs.Contracts.{Loan, Pages, Happens, Reads, HandsBack, Prints, Rules, PrintsRule, PrintsPage, MayHappen}
 
 module _ (l : Loan) (x : Text) where
+  pub pages-defined :
+      (t : Table) (n : ℕ) (b : List ℕ) (a : Answer) (w : List ℕ)
+      → Pages l x t n b a w
+      → (a ≡ answer (page n (length b)) x t) × (w ≡ pageBuffer x t n b)
+  unfolding Pages
+  pages-defined t n b a w (r, is, (told, (left, written))) = (sym is ∙ told, written)
+
+  page-left : (t : Table) (n : ℕ) (b : List ℕ) (a : Answer) (w : List ℕ) → Pages l x t n b a w → t ≡ after (page n (length b)) x t
+  unfolding Pages
+  page-left t n b a w (r, is, (told, (left, written))) = left
+
   pub happens-defined : (c : Call) (t : Table) (a : Answer) (u : Table) → Happens l x c t a u → (a ≡ answer c x t) × (u ≡ after c x t)
   unfolding Happens
   happens-defined fresh t a u (r, is, (told, left)) = (sym is ∙ told, left)
@@ -53,6 +67,10 @@ module _ (l : Loan) (x : Text) where
   happens-defined (look n s k) t a u (r, is, same, (told, left)) = (sym is ∙ told, same ∙ left)
   happens-defined close t a u (r, is, (told, left)) = (sym is ∙ told, left)
   happens-defined finish t a u (r, is, (told, (left, few))) = (sym is ∙ told, left)
+  happens-defined (page n room) t a u (b, w, long, same, pages) = (
+    pages-defined t n b a w pages .0 ∙ ap (λ k. answer (page n k) x t) long,
+    same ∙ page-left t n b a w pages ∙ ap (λ k. after (page n k) x t) long,
+  )
 
   -- a case of a call's enum for its answer: `taken` says what the call tells where it is accepted, `turned` a refusal
   module _ {Z : Type 0} (says : Z → Answer) (c : Call) (t : Table) where
@@ -109,6 +127,10 @@ module _ (l : Loan) (x : Text) where
         let own : outcome.Outcome = record { verdict = finishing.verdict (decode x) (done .table); rounds = done .rounds; cells = done .cells } in
         enum-case finishTold finish t (finished.the-variants.Accepted own) finished.the-variants.Refused refl (λ why. refl)
 
+    page-case : (n room : ℕ) → (z : paged.Paged) × (pageTold z ≡ answer (page n room) x t)
+    unfolding pageTold told width
+    page-case n room = enum-case pageTold (page n room) t paged.the-variants.Accepted paged.the-variants.Refused refl (λ why. refl)
+
     -- its rounds are those of the definition, or 0
     finish-few : (z : finished.Finished) → finishTold z ≡ answer finish x t → finishRounds z ≤ emptyCells (decode x) t + 1
     unfolding finishTold finishRounds answer told
@@ -118,7 +140,7 @@ module _ (l : Loan) (x : Text) where
         omega (arith, finish-rounds (decode x) t)
     finish-few (finished.the-variants.Refused why) is = omega arith
 
-  -- offer and look leave the table
+  -- offer, look and page leave the table
   stays : (c : Call) (t : Table) → left c (decode x) t ≡ t → after c x t ≡ t
   unfolding after
   stays c t same =
@@ -133,6 +155,14 @@ module _ (l : Loan) (x : Text) where
   unfolding left
   look-stays n s k t = stays (look n s k) t refl
 
+  page-stays : (n room : ℕ) (t : Table) → after (page n room) x t ≡ t
+  unfolding left
+  page-stays n room t = stays (page n room) t refl
+
+  defined-pages : (t : Table) (n : ℕ) (b : List ℕ) → Pages l x t n b (answer (page n (length b)) x t) (pageBuffer x t n b)
+  unfolding Pages
+  defined-pages t n b = let (z, is) = page-case t n (length b) in (z, is, (is, (sym (page-stays n (length b) t), refl)))
+
   defined-happens : (c : Call) (t : Table) → Happens l x c t (answer c x t) (after c x t)
   unfolding Happens
   defined-happens fresh t = let (z, is) = fresh-case t in (z, is, (is, refl))
@@ -146,6 +176,10 @@ module _ (l : Loan) (x : Text) where
       (z, is, look-stays n s k t, (is, sym (look-stays n s k t)))
   defined-happens close t = let (z, is) = close-case t in (z, is, (is, refl))
   defined-happens finish t = let (z, is) = finish-case t in (z, is, (is, (refl, finish-few t z is)))
+  defined-happens (page n room) t =
+      let b : List ℕ = replicate room 0 in
+      let long : length b ≡ room = length-replicate room 0 in
+      (b, pageBuffer x t n b, long, page-stays n room t, subst (λ k. Pages l x t n b (answer (page n k) x t) (pageBuffer x t n b)) long (defined-pages t n b))
 
   -- rule
   pub rules-defined : (b : List ℕ) (a : Answer) (u : List ℕ) → Rules l x b a u → (a ≡ ruleAnswer x b) × (u ≡ ruleBuffer x b)
@@ -203,6 +237,17 @@ module _ (l : Loan) (x : Text) where
       let all : take (length (ruleOutput x)) (ruleOutput x) ≡ ruleOutput x = take-length (ruleOutput x) in
       (record { bytes = ruleOutput x; length = length (ruleOutput x) }, all, (all, le-refl (length (ruleOutput x))))
 
+  pub prints-page-defined : (argument said : List ℕ) → PrintsPage l x argument said → said ≡ pageOutput argument x
+  unfolding PrintsPage
+  prints-page-defined argument said (r, is, (right, inside)) = sym is ∙ right
+
+  defined-prints-page : (argument : List ℕ) → PrintsPage l x argument (pageOutput argument x)
+  unfolding PrintsPage
+  defined-prints-page argument =
+      let out = pageOutput argument x in
+      let all : take (length out) out ≡ out = take-length out in
+      (record { bytes = out; length = length out }, all, (all, le-refl (length out)))
+
   pub may-happen : MayHappen l x
   unfolding HandsBack Prints
   may-happen =
@@ -213,4 +258,6 @@ module _ (l : Loan) (x : Text) where
         verdict = refl;
         rule = defined-rules;
         printed-rule = defined-prints-rule;
+        page-buffer = defined-pages;
+        printed-page = defined-prints-page;
       }

@@ -1,13 +1,14 @@
--- The hypotheses of demand 3 and of requests (ii) and (iii) can be met: every list of calls can be made, every accepted text has a table
+-- The hypotheses of demand 3 and of requests (ii), (iii) and (v) can be met: every list of calls can be made, every accepted text has a table
 -- fresh for it, one machine has two cuttings, and there is a list with a message in it: on case C2 node 1 steps and offers what it knows of
 -- its border state, node 0 accepts it, accepts it again, and node 1 and an empty text are refused; a look without a node is accepted there;
--- there are jobs with EG and with AG, and a list on a ring with EG in which a close fills 1. Assumes nothing.
+-- there are jobs with EG and with AG, and a list on a ring with EG in which a close fills 1; pages are written and refused between the steps of a
+-- list, and two pages of one node, before and after a step. Assumes nothing.
 use Prim.Native.Nat.{ℕ}
 use Prim.Native.String.{String}
 use mathlib.Core.Path.{_≡_, refl, sym, _∙_, ap, subst}
 use mathlib.Core.Bool.{Bool, true, false, true≢false}
 use mathlib.Core.List.{List, [], _∷_, List·Memᴰ, List·Memᴰ·head}
-use lib.ListN.{length-replicate}
+use lib.ListN.{length, length-replicate}
 use lib.Dec.{lit≤}
 use Rattle.text.specs.Field.{Text}
 use Rattle.job.specs.Job.{decode, subformula}
@@ -16,12 +17,13 @@ use Rattle.job.specs.Answer.{accepted, refused}
 use Rattle.job.specs.Questions.{Accepted}
 use Rattle.job.proofs.Exact.{decode-is-job}
 use Rattle.cells.specs.Table.{Table, tableLength}
-use Rattle.cells.specs.Calls.{Call, fresh, step, offer, accept, look, close, finish, answer, after}
+use Rattle.cells.specs.Calls.{Call, fresh, step, offer, accept, look, close, finish, page, answer, after}
 use Rattle.cells.specs.Cases.{bytes, jobV, job2, job3, zeros}
 use Rattle.cells.specs.AllAlong.{ringJob, impliesJob}
 use Rattle.cells.proofs.CallLaws.{fresh-accepted}
 use Rattle.cells.proofs.Printed.{printed}
-use Rattle.promises.specs.Contracts.{Loan, Happens}
+use Rattle.page_text.specs.PageCall.{pageBuffer}
+use Rattle.promises.specs.Contracts.{Loan, Happens, Pages}
 use Rattle.promises.specs.Demand3.{Event, Happened, Message, handedOut, isRefused, isMeant, Meant, FreshFor, ListOfCalls, callsOf, OneMachine}
 use Rattle.promises.specs.AllAlong.{HasLine}
 use Rattle.promises.proofs.Contracts.{may-happen}
@@ -30,9 +32,10 @@ use Rattle.promises.proofs.Contracts.{may-happen}
 abbrev pub lent : Loan
 lent =
     record {
-      lifetimes = ([], ([], tt));
+      lifetimes = ([], ([], ([], tt)));
       text = record { ptr = (0, 0); name = 0; now = [] };
       table = record { ptr = (0, 0); name = 0; now = [] };
+      buffer = record { ptr = (0, 0); name = 0; now = [] };
     }
 
 -- a call with its text, and what comes of a list of them by the definitions
@@ -91,6 +94,7 @@ isAccept (accept n s k v) = true
 isAccept (look n s k) = false
 isAccept close = false
 isAccept finish = false
+isAccept (page n room) = false
 
 no-message :
     (c : Call) (out : List Message)
@@ -198,3 +202,42 @@ looked-at = after (step 1) (bytes job2) (start (bytes job2))
 pub looked : (t : Table) × Happens lent (bytes job2) (look 255 1 2) t (accepted (1 ∷ [])) t
 unfolding printed start looked-at
 looked = (looked-at, may-happen lent (bytes job2) .call (look 255 1 2) looked-at)
+
+-- On V node 0 steps, and its page is asked for with enough bytes, with a byte too few, and of a node that there is not.
+unfoldable pub page-calls : List Made
+page-calls =
+    of-job jobV (page 0 240) ∷ of-job jobV (step 0) ∷ of-job jobV (page 0 240) ∷ of-job jobV (page 0 239) ∷ of-job jobV (page 2 239) ∷ []
+
+unfoldable pub page-events : List Event
+page-events = played page-calls (start (bytes jobV))
+
+pub page-meant : Meant (bytes jobV) [] page-events
+unfolding printed page-calls of-job start page-events played Meant handedOut
+page-meant = (
+  isMeant refl (no-message (page 0 240) [] refl),
+  (
+    isMeant refl (no-message (step 0) [] refl),
+    (isMeant refl (no-message (page 0 240) [] refl), (isRefused 24 0 0 refl, (isRefused 11 0 0 refl, tt))),
+  ),
+)
+
+pub page-example :
+    (calls : ListOfCalls (bytes jobV))
+    × (callsOf calls
+    ≡ (page 0 240, accepted [])
+    ∷ (step 0, accepted (4 ∷ []))
+    ∷ (page 0 240, accepted [])
+    ∷ (page 0 239, refused 24 0 0)
+    ∷ (page 2 239, refused 11 0 0)
+    ∷ [])
+unfolding printed page-calls of-job start page-events played listed Accepted
+page-example = (listed (bytes jobV) refl page-calls page-meant, refl)
+
+-- An accepted page, of any buffer that is long enough.
+pub paged :
+    (t : Table) × ((b : List ℕ) → length b ≡ 240 → (w : List ℕ) × Pages lent (bytes jobV) t 0 b (accepted []) w)
+unfolding printed start
+paged =
+    let x = bytes jobV in
+    let t = start x in
+    (t, λ b long. (pageBuffer x t 0 b, subst (λ a. Pages lent x t 0 b a (pageBuffer x t 0 b)) (ap (λ k. answer (page 0 k) x t) long) (may-happen lent x .page-buffer t 0 b)))

@@ -11,7 +11,7 @@ use Rattle.job.specs.Questions.{Accepted}
 use Rattle.job.specs.Written.{IsJob}
 use Rattle.job.proofs.Exact.{decode-is-job}
 use Rattle.cells.specs.Table.{Table}
-use Rattle.cells.specs.Calls.{Call, fresh, step, offer, accept, look, close, finish, told, left, answer, after}
+use Rattle.cells.specs.Calls.{Call, fresh, step, offer, accept, look, close, finish, page, told, left, answer, after}
 use Rattle.promises.specs.Demand3.{Event, Happened, lastTable, Message, handedOut, Allowed, isRefused, isMeant, Meant, FreshFor, AsDefined}
 use Rattle.cells.proofs.Tells.{Tells}
 use Rattle.cells.proofs.Sound.{truth, Sound, freshTable-sound, ownerCell-tells, stepTable-sound, acceptTable-sound}
@@ -53,6 +53,7 @@ module _ (x : Text) (is : Accepted x) where
         let (still, some) = close-asked x t taken in
         closeTable-sound J job t sound (settled-is J t (sound .formed .long) still) some
     left-sound finish taken message = finish-sound J job t sound
+    left-sound (page n room) taken message = sound
 
     -- what it hands out is true
     handed-true :
@@ -71,6 +72,7 @@ module _ (x : Text) (is : Accepted x) where
     handed-true (look n s k) taken m h = absurd (List·Memᴰ·not-nil h)
     handed-true close taken m h = absurd (List·Memᴰ·not-nil h)
     handed-true finish taken m h = absurd (List·Memᴰ·not-nil h)
+    handed-true (page n room) taken m h = absurd (List·Memᴰ·not-nil h)
 
   module _ (out : List Message) (t : Table) (before : Invariant J out t) where
     abbrev Kept : Call → Text → Type 0

@@ -25,10 +25,10 @@ use Rattle.promises.proofs.Contracts.{prints-defined}
 use Rattle.promises.proofs.Ends.{sound-finishes}
 
 module _ (x : Text) where
-  abbrev start : Table
+  abbrev pub start : Table
   start = replicate (tableLength (decode x)) 2
 
-  start-sound : Sound (decode x) start
+  pub start-sound : Sound (decode x) start
   unfolding freshTable
   start-sound =
       let long : length start ≡ tableLength (decode x) = length-replicate (tableLength (decode x)) 2 in

@@ -10,3 +10,4 @@ pub mod RuleText
 pub mod UnnamedNode
 pub mod AllAlong
 pub mod OneWalk
+pub mod OnPaper

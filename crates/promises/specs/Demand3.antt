@@ -11,7 +11,7 @@ use Rattle.text.specs.Field.{Text}
 use Rattle.job.specs.Job.{decode, size, subformulaCount}
 use Rattle.job.specs.Answer.{Answer, accepted, refused}
 use Rattle.cells.specs.Table.{Table, cell, emptyCells}
-use Rattle.cells.specs.Calls.{Call, fresh, step, offer, accept, look, close, finish, answer, after}
+use Rattle.cells.specs.Calls.{Call, fresh, step, offer, accept, look, close, finish, page, answer, after}
 use Rattle.promises.specs.Contracts.{Loan, Happens}
 use Rattle.promises.specs.Demand2.{IsTruth}
 
@@ -50,6 +50,7 @@ handedOut (accepted told) (accept n s k v) = []
 handedOut (accepted told) (look n s k) = []
 handedOut (accepted told) close = []
 handedOut (accepted told) finish = []
+handedOut (accepted told) (page n room) = []
 
 -- What a call of the list may be, where the messages `out` were handed out earlier in it: "a refused call may have been passed
 -- any text and numbers"; any other was passed the job's text and, if it is an accept, a message of those.

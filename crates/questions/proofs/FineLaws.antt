@@ -1,10 +1,10 @@
 -- What a call may count on whose questions are all answered yes: r is the number of the first no, and it is 0. Assumes nothing.
-use Prim.Native.Nat.{ℕ, suc, _<_}
+use Prim.Native.Nat.{ℕ, suc, _+_, _*_, _<_, _≤_}
 use mathlib.Core.Path.{_≡_, refl, sym, _∙_}
 use mathlib.Core.Bool.{Bool, true, false, cond, not, _&&_, _||_}
 use mathlib.Core.List.{List, [], _∷_}
 use native.Mathlib.Omega.{arith}
-use borrow.Author.Tests.{ltb-true}
+use borrow.Author.Tests.{ltb-true, leb-true}
 use lib.Dec.{eqb, ltb, leb}
 use Rattle.law.proofs.Bounded.{by-equal}
 use Rattle.job.specs.Job.{size, subformulaCount}
@@ -13,13 +13,13 @@ use Rattle.job.proofs.QuestionLaws.{noNumber-first}
 use Rattle.cells.specs.Fragment.{inFragment, border}
 use Rattle.cells.specs.Table.{Table, cell, ownerCell, isEmpty}
 use Rattle.cells.specs.Close.{isTemporal, smallestOpen, settled, someOpen}
-use Rattle.cells.specs.Questions.{tableSize, tableCells}
+use Rattle.cells.specs.Questions.{tableSize, tableCells, nodeBelow}
 use Rattle.cells.specs.Calls.{Call, ownQuestions, nodeRead}
 use Rattle.cells.proofs.CallLaws.{numbers-in, read-below}
 use Rattle.cells.proofs.FragmentLaws.{border-inside}
 use Rattle.image.specs.Image.{IsImage, jobOf}
 use Rattle.table.specs.Lent.{Ready, IsCell}
-use Rattle.questions.proofs.NoLaws.{table-ready, node-ready, offer-number, accept-number, look-number, close-number}
+use Rattle.questions.proofs.NoLaws.{table-ready, node-ready, offer-number, accept-number, look-number, close-number, page-number}
 
 -- a question that is answered yes, and those behind it too
 cond-zero : (b : Bool) (x y : ℕ) → cond b x (suc y) ≡ 0 → (b ≡ true) × (x ≡ 0)
@@ -37,6 +37,17 @@ module _ (m : List ℕ) (t : Table) (image : IsImage m) (r : ℕ) (none : r ≡ 
 
   pub step-fine : (n : ℕ) → r ≡ noNumber (ownQuestions (Call.step n) (jobOf m) t) → Ready m t × (n < jobOf m .nodes)
   step-fine n asked = node-ready m t image n r asked none
+
+  node-front :
+      (n : ℕ) (qs : List Question)
+      → r ≡ noNumber (tableSize (jobOf m) t ∷ (tableCells (jobOf m) t ∷ (nodeBelow (jobOf m) n ∷ qs)))
+      → Ready m t × (n < jobOf m .nodes)
+  unfolding ownQuestions
+  node-front n qs asked =
+      let front = ownQuestions (Call.step n) (jobOf m) t in
+      let fine : noNumber front ≡ 0 =
+      by-equal (noNumber front) 0 (λ e. e) (λ some. absurd (some (sym (noNumber-first front qs some) ∙ sym asked ∙ none))) in
+      node-ready m t image n 0 (sym fine) refl
 
   pub offer-fine :
       (s k : ℕ)
@@ -57,10 +68,7 @@ module _ (m : List ℕ) (t : Table) (image : IsImage m) (r : ℕ) (none : r ≡ 
       → Ready m t × (IsCell (jobOf m) n s k × (inFragment (jobOf m) n s ≡ true))
   unfolding ownQuestions
   accept-fine n s k v asked =
-      let front = ownQuestions (Call.step n) (jobOf m) t in
-      let fine : noNumber front ≡ 0 =
-      by-equal (noNumber front) 0 (λ e. e) (λ some. absurd (some (sym (noNumber-first front _ some) ∙ sym asked ∙ none))) in
-      let (ready, under) = node-ready m t image n 0 (sym fine) refl in
+      let (ready, under) = node-front n _ asked in
       let c = cell (jobOf m) t n s k in
       let at-17 : ℕ = cond (isEmpty c || eqb c v) 0 17 in
       let at-16 : ℕ = cond (border (jobOf m) n s) at-17 16 in
@@ -96,3 +104,14 @@ module _ (m : List ℕ) (t : Table) (image : IsImage m) (r : ℕ) (none : r ≡ 
       cond-zero (settled (jobOf m) t) (cond (someOpen (jobOf m) t) 0 20) 18 (sym (close-number ready) ∙ sym asked ∙ none) in
       let (some, last) = cond-zero (someOpen (jobOf m) t) 0 19 rest in
       (ready, ltb-true (smallestOpen (jobOf m) t) (subformulaCount (jobOf m)) some)
+
+  pub page-fine :
+      (n room : ℕ)
+      → r ≡ noNumber (ownQuestions (Call.page n room) (jobOf m) t)
+      → Ready m t × ((n < jobOf m .nodes) × (80 * (size (jobOf m) + 1) ≤ room))
+  unfolding ownQuestions
+  page-fine n room asked =
+      let (ready, under) = node-front n _ asked in
+      let (fits, last) =
+      cond-zero (leb (80 * (size (jobOf m) + 1)) room) 0 23 (sym (page-number ready n room under) ∙ sym asked ∙ none) in
+      (ready, (under, leb-true (80 * (size (jobOf m) + 1)) room fits))

@@ -1,6 +1,6 @@
 -- Questions asked one after the other, for every call: what a no and what a yes leaves to ask, and the answers in the numbers that code has.
 -- Assumes nothing.
-use Prim.Native.Nat.{ℕ, _*_, _<_, _≤_}
+use Prim.Native.Nat.{ℕ, _+_, _*_, _<_, _≤_}
 use mathlib.Core.Path.{_≡_, refl, sym, _∙_, ap₂}
 use mathlib.Core.Bool.{Bool, true, false, cond, not, _&&_, _||_}
 use mathlib.Core.List.{List, [], _∷_, _++_}
@@ -18,7 +18,7 @@ use Rattle.job.proofs.QuestionLaws.{noNumber-yes, noNumber-no, noNumber-first, 
 use Rattle.cells.specs.Fragment.{inFragment, border}
 use Rattle.cells.specs.Table.{Table, tableLength, cell, ownerCell, isEmpty, cellsRight}
 use Rattle.cells.specs.Close.{isTemporal, settled, smallestOpen, someOpen}
-use Rattle.cells.specs.Questions.{tableSize, tableCells, nodeBelow, nodeOr255, numbersBelow, temporalNamed, ownerFilled, truthValue, stateAtBorder, cellAgrees, stateInFragment, tableSettled, someOwnerEmpty}
+use Rattle.cells.specs.Questions.{tableSize, tableCells, nodeBelow, nodeOr255, numbersBelow, temporalNamed, ownerFilled, truthValue, stateAtBorder, cellAgrees, stateInFragment, tableSettled, someOwnerEmpty, pageFits}
 use Rattle.cells.specs.Calls.{Call, ownQuestions, nodeRead}
 use Rattle.image.specs.Image.{IsImage, jobOf, placeOf}
 use Rattle.image.proofs.Places.{place-border, place-outside}
@@ -190,6 +190,13 @@ module _ {m : List ℕ} {t : Table} (ready : Ready m t) where
   pub close-number : noNumber (ownQuestions Call.close (jobOf m) t) ≡ cond (settled (jobOf m) t) (cond (someOpen (jobOf m) t) 0 20) 19
   unfolding ownQuestions tableSettled someOwnerEmpty ofCall
   close-number = behind-table _ ∙ simp (noNumber-cond, noNumber-none)
+
+  pub page-number :
+      (n room : ℕ)
+      → n < jobOf m .nodes
+      → noNumber (ownQuestions (Call.page n room) (jobOf m) t) ≡ cond (leb (80 * (size (jobOf m) + 1)) room) 0 24
+  unfolding ownQuestions pageFits ofCall
+  page-number n room under = behind-node n under _ ∙ simp (noNumber-cond, noNumber-none)
 
 -- Questions 12 and 13: a no to one of them, and a yes to both, before whatever else is asked.
 pub named-number :

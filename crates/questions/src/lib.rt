@@ -193,3 +193,18 @@ pub fn close_no(m: &Image, table: &[u8]) -> u8
     }
     0
 }
+
+// Page: those of step, and whether the buffer has room for a line for each state and one more.
+pub fn page_no(m: &Image, table: &[u8], node: usize, room: usize) -> u8
+    requires { ⌜ IsImage (now m) ⌝ }
+    ensures { λ r. ⌜ r ≡ noNumber (ownQuestions (Call.page node room) (jobOf (now (m .entry))) (now (table .entry))) ⌝ }
+{
+    let no = step_no(m, table, node);
+    if no != 0 {
+        return no;
+    }
+    if room < 80 * (states(m) + 1) {
+        return 24;
+    }
+    0
+}

@@ -13,7 +13,7 @@ use Rattle.job.specs.Read.{lineStart, lineLength, lineOf}
 use Rattle.job.proofs.QuestionLaws.{by-refusal, answered-none, answered-some}
 use Rattle.rule_text.specs.RuleCall.{ruleLines, ruleQuestions, ruleAnswer}
 use Rattle.cells.specs.Table.{Table}
-use Rattle.cells.specs.Calls.{Call, fresh, step, offer, accept, look, close, finish, width, told, questions, answer}
+use Rattle.cells.specs.Calls.{Call, fresh, step, offer, accept, look, close, finish, page, width, told, questions, answer}
 use Rattle.numbers.specs.Stored.{stored}
 use Rattle.numbers.proofs.StoredLaws.{stored-front}
 use Rattle.selahmur.specs.StoredAnswer.{storedAnswer}
@@ -32,6 +32,7 @@ own-width (accept n s k v) J t = refl
 own-width (look n s k) J t = refl
 own-width close J t = refl
 own-width finish J t = refl
+own-width (page n room) J t = refl
 
 -- number, line, and as many numbers as a call has of its own, whatever it asks
 answered-width : (qs : List Question) (others : ℕ) (own : List ℕ) → length own ≡ others → length (numbers (answered qs others own)) ≡ 2 + others

@@ -6,7 +6,7 @@ ghost use lib.Seq.{sets};
 ghost use Rattle.text.specs.Decimal.{digitColumn, decimal, line, Short};
 
 // The byte in the column of weight p: a space before the number, or its digit.
-fn digit(n: usize, p: usize) -> u8
+pub fn digit(n: usize, p: usize) -> u8
     requires { ⌜ (0 < p) × (n < 100000) ⌝ }
     ensures { λ r. ⌜ r ≡ digitColumn n p ⌝ }
 {

@@ -12,13 +12,13 @@ pub enum Field {
     Malformed,
 }
 
-fn is_digit(c: u8) -> bool
+pub fn is_digit(c: u8) -> bool
     ensures { λ r. ⌜ r ≡ isDigit c ⌝ }
 {
     48 <= c && c <= 57
 }
 
-fn digit(c: u8) -> usize
+pub fn digit(c: u8) -> usize
     requires { ⌜ isDigit c ≡ true ⌝ }
     ensures { λ r. ⌜ (r ≡ c - 48) × (r ≤ 9) ⌝ }
 {

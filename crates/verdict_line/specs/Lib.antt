@@ -1,2 +1,1 @@
 pub mod VerdictLine
-pub mod Leaves

@@ -8,14 +8,14 @@ use Rattle.job.specs.Answer.{numbers}
 use Rattle.cells.specs.Table.{tableLength}
 use Rattle.cells.specs.Calls.{finish, answer}
 use Rattle.verdict_line.specs.VerdictLine.{verdictLine}
-use Rattle.verdict_line.proofs.TableLaws.{any-table}
+use Rattle.from_fresh.proofs.TableLaws.{any-table}
 use Rattle.verdict_line.proofs.ShortLaws.{answer-short}
 use borrow.Author.Needs.{needs}
 use Rattle.verdict_line.proofs.verdict_line.Statement.{statement}
 use Rattle.verdict_line.proofs.verdict_line.Tie as tie
 
-finish-part-requires : tie.Need-finish-part-requires
-finish-part-requires c κs =
+finish-fresh-requires : tie.Need-finish-fresh-requires
+finish-fresh-requires c κs =
     (subst (λ n. c .before .table-size .result ≤ n) (sym (length-replicate {A = ℕ} 65536 2)) (c .before .table-size .ensures .small), refl)
 
 numbers-here :
@@ -26,7 +26,7 @@ numbers-here c =
     let done = c .before .before in
     c .of-finish .ensures
     ∙ ap numbers
-    (done .finish-part .ensures
+    (done .finish-fresh .ensures .0
     ∙ any-table finish _ _ _ (λ own read. ap (λ n. replicate n 2) (done .before .before .table-size .ensures .right own read)))
 
 line-of-requires : tie.Need-line-of-requires
@@ -42,7 +42,7 @@ verdict-line-spec =
     (tie.spec
     (λ c κs. search needs)
     (λ c. search needs)
-    finish-part-requires
+    finish-fresh-requires
     (λ c κs. search needs)
     line-of-requires
     returns)

@@ -1,4 +1,4 @@
--- What a leaf of `verdict_line` promises, short of the line. Assumes nothing.
+-- How many cells the table for a text has. Assumes nothing.
 use Prim.Native.Nat.{ℕ, _≤_}
 use mathlib.Core.Path.{_≡_}
 use mathlib.Core.List.{List}

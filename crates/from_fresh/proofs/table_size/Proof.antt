@@ -3,11 +3,11 @@ use mathlib.Core.Path.{_≡_, sym, ap, _∙_}
 use Rattle.job.specs.Read.{readTold, headAnswer}
 use Rattle.job.specs.declared.reading.Header.{Header}
 use Rattle.job.specs.declared.reading.Reading.the-variants.{Accepted}
-use Rattle.verdict_line.proofs.TableLaws.{head-small, head-length, size-refused}
+use Rattle.from_fresh.proofs.TableLaws.{head-small, head-length, size-refused}
 use native.Mathlib.Omega.{arith}
 use borrow.Author.Needs.{needs}
-use Rattle.verdict_line.proofs.table_size.Statement.{statement}
-use Rattle.verdict_line.proofs.table_size.Tie as tie
+use Rattle.from_fresh.proofs.table_size.Statement.{statement}
+use Rattle.from_fresh.proofs.table_size.Tie as tie
 
 returns : tie.Need-returns
 returns c =

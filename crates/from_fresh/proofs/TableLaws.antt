@@ -1,9 +1,10 @@
--- The table that verdict uses: by line 1 alone it has the job's length, and where the text is refused no table matters. Assumes nothing.
+-- The table that the programs use: by line 1 alone it has the job's length, and where the text is refused no table matters. Assumes nothing.
 use Prim.Native.Nat.{ℕ, zero, suc, _-_, _*_, _≤_}
 use mathlib.Core.Path.{_≡_, refl, sym, _∙_, ap, ap₂, subst}
-use mathlib.Core.List.{List, _∷_}
+use mathlib.Core.List.{List, _∷_, _++_}
 use native.Mathlib.Omega.{arith}
 use lib.ListN.{length, length-replicate, replicate, take}
+use lib.Seq.{take-at}
 use Rattle.text.specs.Field.{Text}
 use Rattle.job.specs.Layout.{states, subformulas, nodes}
 use Rattle.job.specs.Job.{decode}
@@ -12,11 +13,13 @@ use Rattle.job.specs.Read.{readAnswer, readTold, headAnswer}
 use Rattle.job.specs.declared.reading.Header.{Header}
 use Rattle.job.specs.declared.reading.Reading.the-variants.{Accepted, Refused}
 use Rattle.job.specs.declared.reading.Refusal.{Refusal}
-use Rattle.job.proofs.QuestionLaws.{refused-not-accepted}
+use Rattle.job.proofs.QuestionLaws.{refused-not-accepted, by-refusal, afterwards-none, afterwards-some}
 use Rattle.job.proofs.LayoutLaws.{head-fits}
 use Rattle.job.proofs.ReadLaws.{read-head-refused, product-small, decode-length}
 use Rattle.cells.specs.Table.{Table, tableLength}
-use Rattle.cells.specs.Calls.{Call, answer}
+use Rattle.cells.specs.Finish.{finish}
+use Rattle.cells.specs.Calls.{Call, questions, left, answer, after}
+use Rattle.cells.proofs.Grown.{finish-grown}
 use Rattle.cells.proofs.CallLaws.{text-refused}
 
 -- line 1 is accepted: its numbers give the table's length
@@ -64,3 +67,24 @@ part-fresh n cells fits fresh =
     let small : n ≤ 65536 = subst (λ c. n ≤ c) (ap length fresh ∙ length-replicate {A = ℕ} 65536 2) fits in
     let all : n - 0 ≡ n = omega arith in
     ap₂ take all fresh ∙ take-fresh n 65536 small
+
+-- finish leaves as many cells as it is lent
+finish-length : (x : Text) (t : Table) → length (after Call.finish x t) ≡ length t
+unfolding after left
+finish-length x t =
+    let qs = questions Call.finish x t in
+    let made = finish (decode x) t .table in
+    by-refusal qs
+    (λ e. ap length (afterwards-none qs t made e) ∙ finish-grown (decode x) t .long)
+    (λ q e. ap length (afterwards-some qs t made q e))
+
+-- the first cells of the array that they are a part of are what it leaves
+pub part-finished :
+    (x : Text) (n : ℕ) (before part rest : List ℕ)
+    → before ≡ replicate n 2
+    → part ≡ after Call.finish x before
+    → take n (part ++ rest) ≡ after Call.finish x (replicate n 2)
+part-finished x n before part rest fresh e =
+    let is : part ≡ after Call.finish x (replicate n 2) = e ∙ ap (after Call.finish x) fresh in
+    let long : length part ≡ n = ap length is ∙ finish-length x (replicate n 2) ∙ length-replicate {A = ℕ} n 2 in
+    take-at part rest n long ∙ is

@@ -1,0 +1,13 @@
+-- `write_heading`: its parts, one behind the other.
+use Rattle.page_writer.proofs.PartLaws.{heading-written}
+use borrow.Author.Needs.{needs}
+use Rattle.page_writer.proofs.write_heading.Statement.{statement}
+use Rattle.page_writer.proofs.write_heading.Tie as tie
+
+returns : tie.Need-returns
+returns c = heading-written _ _ _ _ _ (c .before .before .before .before .before .before .before .before .before .before .write-spaces .ensures) (c .before .before .before .before .before .before .write-numbers .ensures) (c .before .before .end-line .ensures)
+
+pub write-heading-spec : {M : Type 1} → statement M
+write-heading-spec =
+    tie.close
+    (tie.spec (λ c κs. search needs) (λ c κs. search needs) (λ c. search needs) (λ c. search needs) (λ c κs. search needs) (λ c. search needs) returns)
