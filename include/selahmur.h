@@ -1,5 +1,5 @@
 /*
- * selahmur.h: the ten calls of Selahmur for programs in C.
+ * selahmur.h: the eleven calls of Selahmur for programs in C.
  *
  *     rt staticlib selahmur                       writes target/staticlib/libselahmur.a
  *     cc -Iinclude service.c target/staticlib/libselahmur.a
@@ -8,16 +8,17 @@
  * subformula, nodes * states * subformulas in all (at most 65,536), and the cell of a node n, a state s and a subformula k is byte
  * (n * states + s) * subformulas + k: 0 false, 1 true, 2 empty. `selahmur_read` tells the sizes, the caller lends the table, and
  * `selahmur_fresh` makes it fresh. From then on steps, messages and closes come in any order, and `selahmur_finish` gives the verdict.
- * examples/service.c does so from beginning to end. `selahmur_rule` takes no job: it makes the lines at the end of one from a formula that is
- * typed. examples/rule.c puts a job together with them.
+ * examples/service.c does so from beginning to end. `selahmur_page` writes one node's table as lines to be printed, at any time, into a buffer
+ * that is lent besides. `selahmur_rule` takes no job: it makes the lines at the end of one from a formula that is typed, in a buffer in the place
+ * of the table. examples/rule.c puts a job together with them.
  *
  * What is passed. Any bytes as the text, any bytes as the table or the buffer, any numbers: what does not fit is refused. Each array is a
  * pointer and the number of its elements. The pointer may not be null, even where that number is 0, and the arrays of one call may not overlap.
- * The text is only read; so is the table by offer and look.
+ * The text is only read; so is the table by offer, look and page.
  *
  * What is answered. Every call stores all numbers of its answer into `answer`, which the caller lends: the number of the refusal or
  * SELAHMUR_ACCEPTED, the line that the refusal is about, then the call's own numbers. (`selahmur_line` alone is never refused and has only
- * numbers of its own.) A refusal tells 0 in all of the call's own numbers and leaves every byte of the table or the buffer. An array that is too
+ * numbers of its own.) A refusal tells 0 in all of the call's own numbers and leaves every byte of the table and the buffer. An array that is too
  * short takes as many numbers as fit, nothing is ever written behind it, and what lies behind the last number of a longer one stays. The
  * constants SELAHMUR_..._NUMBERS say how long an array takes the whole answer.
  *
@@ -63,7 +64,8 @@ enum {
     SELAHMUR_NOTHING_OPEN = 20,     /* every owner's cell is filled */
     SELAHMUR_BUFFER_LENGTH = 21,    /* the buffer has not 512 bytes */
     SELAHMUR_BAD_RULE = 22,         /* the rule text has over 512 bytes, or is not in the grammar */
-    SELAHMUR_TOO_MANY_LINES = 23    /* the rule has more than 32 lines */
+    SELAHMUR_TOO_MANY_LINES = 23,   /* the rule has more than 32 lines */
+    SELAHMUR_PAGE_ROOM = 24         /* the buffer has fewer than 80 * (states + 1) bytes */
 };
 
 /* How many numbers each call's answer has. */
@@ -77,6 +79,7 @@ enum {
     SELAHMUR_LOOK_NUMBERS = 3,
     SELAHMUR_CLOSE_NUMBERS = 4,
     SELAHMUR_FINISH_NUMBERS = 5,
+    SELAHMUR_PAGE_NUMBERS = 2,
     SELAHMUR_RULE_NUMBERS = 3,
     SELAHMUR_MOST_NUMBERS = 6 /* room for any answer */
 };
@@ -86,6 +89,9 @@ enum { SELAHMUR_NO_NODE = 255 };
 
 /* Rule: the bytes of the buffer, and of one line in it. */
 enum { SELAHMUR_RULE_BUFFER = 512, SELAHMUR_RULE_LINE = 16 };
+
+/* Page: the bytes of one line; a page has one more line than there are states. */
+enum { SELAHMUR_PAGE_LINE = 80 };
 
 /* Reads the job. Refusals 1 to 8.
  * Answer: number, line, states, edges, subformulas, nodes. */
@@ -129,6 +135,15 @@ void selahmur_close(const uint8_t *text, size_t text_length, uint8_t *table, siz
  * Answer: number, line, the verdict (1 yes, 0 no), the rounds done with that last one, how many cells are filled. */
 void selahmur_finish(const uint8_t *text, size_t text_length, uint8_t *table, size_t table_length, size_t *answer,
                      size_t answer_length);
+
+/* Writes one node's table as states + 1 lines of 79 columns and byte 10, SELAHMUR_PAGE_LINE bytes each, from the start of the buffer on, which has
+ * as many bytes or more. The first line has 15 spaces and then the numbers of the subformulas in two columns each; then comes a line for each
+ * state: state, owner and label in five columns each, and for each subformula a space and 0, 1 or `.` for an empty cell. A state outside the node's
+ * fragment has a line too, with nothing but dots. Every number is right-justified and every line filled with spaces. Bytes behind the lines and the
+ * table stay. Refusals 1 to 11 and 24; SELAHMUR_NO_NODE is no node here.
+ * Answer: number, line. */
+void selahmur_page(const uint8_t *text, size_t text_length, const uint8_t *table, size_t table_length, size_t node, uint8_t *buffer,
+                   size_t buffer_length, size_t *answer, size_t answer_length);
 
 /* Reads a rule as text, of at most 512 bytes, and writes its lines, a job's subformula lines, from the start of the buffer on, which has exactly
  * 512 bytes. Each line takes 16 bytes, byte 10 among them; the last one is the whole rule's. Bytes behind the lines stay. Refusals 21 to 23.

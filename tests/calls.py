@@ -8,22 +8,24 @@ functions of include/selahmur.h, and after every call compares every number of
 the answer and every byte of the table with the model's.  The text has to stay,
 and so have the bytes around text, table and answer, and the answer's array
 behind the last number.  That array is too short, just long enough or longer.
-Where `rule` is called, the table is the buffer that is lent to it.
+Where `rule` is called, the table is the buffer that is lent to it; `page` is lent
+a buffer besides, of which every byte is compared too.
 
 A list is a job and a table on which it goes on.  Honest lists play the workers
 from a fresh table to a full one, with messages that come late, twice, or after
-the step that they would have spared.  Others start from any table.  In all of
-them come damaged texts, other jobs' texts, tables of a wrong length or with
-wrong bytes, and numbers out of range, and rule texts, in the grammar and not.
+the step that they would have spared, and pages printed in between.  Others start
+from any table.  In all of them come damaged texts, other jobs' texts, tables of a
+wrong length or with wrong bytes, buffers that are too short for a page, numbers
+out of range, and rule texts, in the grammar and not.
 Each of COUNT draws is some lists of small jobs and some rules; the jobs at the
 limits, texts with several faults at once, every rule text of up to four tokens
 and the cases on which compare.py has the definitions computed come besides.
 
 It counts too, and fails where a call is never accepted, where a number that a
-call can refuse with never comes, or where no message or no close is ever about
-a kind that it can be about.  The worked examples are compiled with the header:
-examples/service.c has to print what the model says of the same calls, and
-examples/rule.c the CTL truth of a rule that is typed.
+call can refuse with never comes, where no message or no close is ever about a kind
+that it can be about, or where some mark is on no page.  The worked examples are
+compiled with the header: examples/service.c has to print what the model says of
+the same calls, and examples/rule.c the CTL truth of a rule that is typed.
 """
 
 from __future__ import annotations
@@ -53,6 +55,8 @@ import checker
 import damaged
 import faults
 import generate
+import page_cases
+import pages
 import rule_texts
 import rules
 import tables
@@ -72,8 +76,8 @@ SHOWN = 3
 FAULTY = 60
 """How many texts with several faults, and edge lists, are made of a large job."""
 
-NUMBERS = {"read": 0, "line": 1, **tables.NUMBERS, "rule": 0}
-"""How many numbers each call takes."""
+NUMBERS = {"read": 0, "line": 1, **tables.NUMBERS, "page": 1, "rule": 0}
+"""How many numbers each call takes; page is lent a buffer behind its own."""
 
 TEXT_ALONE = ("read", "line")
 """The calls that are lent a text and nothing else."""
@@ -88,6 +92,7 @@ QUESTIONS = {
     "look": [*TEXT_QUESTIONS, 9, 10, 11, 12, 18],
     "close": [*TEXT_QUESTIONS, 9, 10, 19, 20],
     "finish": [*TEXT_QUESTIONS, 9, 10],
+    "page": [*TEXT_QUESTIONS, 9, 10, 11, 24],
     "rule": [0, 21, 22, 23],
 }
 """The numbers that each call can give ("Read puts 1 to 8; ...")."""
@@ -114,6 +119,7 @@ TOLD = {
     "offer": ["value 0", "value 1", *kinds("offer")],
     "close": kinds("close"),
     "finish": ["verdict 0", "verdict 1"],
+    "page": ["mark .", "mark 0", "mark 1", "room just so", "room to spare"],
     "rule": [f"lines {count}" for count in range(1, rules.MOST + 1)],
 }
 """What an accepted call can say or be about, and must have at least once; and
@@ -137,18 +143,20 @@ class Case:
     table: bytes
     numbers: tuple[int, ...]
     room: int
+    buffer: bytes = b""  # lent to page
 
     def written(self) -> str:
         """The case as one word, for --replay."""
-        parts = [self.name, self.text.hex(), self.table.hex(), self.numbers, self.room]
+        lent = [data.hex() for data in (self.text, self.table, self.buffer)]
+        parts = [self.name, *lent, self.numbers, self.room]
         return base64.b85encode(zlib.compress(json.dumps(parts).encode(), 9)).decode()
 
     @staticmethod
     def read(word: str) -> Case:
         """The case that was written so."""
-        parts = json.loads(zlib.decompress(base64.b85decode(word)))
-        name, text, table = parts[0], bytes.fromhex(parts[1]), bytes.fromhex(parts[2])
-        return Case(name, text, table, tuple(parts[3]), parts[4])
+        name, *lent, numbers, room = json.loads(zlib.decompress(base64.b85decode(word)))
+        text, table, buffer = map(bytes.fromhex, lent)
+        return Case(name, text, table, tuple(numbers), room, buffer)
 
 
 def line_place(text: bytes, number: int) -> list[int]:
@@ -160,15 +168,20 @@ def line_place(text: bytes, number: int) -> list[int]:
     return [start, 5 * count]
 
 
-def model(case: Case) -> tuple[list[int], bytes]:
-    """All numbers of the model's answer, and the table afterwards."""
+def model(case: Case) -> tuple[list[int], bytes, bytes]:
+    """All numbers of the model's answer, and table and buffer afterwards."""
+    answer, table, buffer = [], case.table, case.buffer
     if case.name == "read":
-        return list(checker.read(case.text)), case.table
-    if case.name == "line":
-        return line_place(case.text, *case.numbers), case.table
-    if case.name == "rule":
-        return rules.rule(case.text, case.table)
-    return getattr(checker, case.name)(case.text, case.table, *case.numbers)
+        answer = list(checker.read(case.text))
+    elif case.name == "line":
+        answer = line_place(case.text, *case.numbers)
+    elif case.name == "rule":
+        answer, table = rules.rule(case.text, table)
+    elif case.name == "page":
+        answer, buffer = pages.lent(case.text, table, *case.numbers, buffer)
+    else:
+        answer, table = getattr(checker, case.name)(case.text, table, *case.numbers)
+    return answer, table, buffer
 
 
 @dataclass
@@ -180,6 +193,10 @@ class Difference:
     library: list[int]
     wrong: list[str]
 
+    def size(self) -> tuple[int, ...]:
+        """How large it is, to be shown."""
+        return len(self.case.text), len(self.case.table), len(self.case.buffer)
+
     def show(self) -> None:
         """Print it so that it can be made again."""
         case = self.case
@@ -187,6 +204,8 @@ class Difference:
         print("; ".join(self.wrong))
         show_text(case.text)
         print(f"    table of {len(case.table)} bytes: {case.table[:96].hex()}")
+        if case.name == "page":
+            print(f"    buffer of {len(case.buffer)} bytes: {case.buffer[:96].hex()}")
         print(f"    model:   {self.model}")
         print(f"    library: {self.library}")
         print(f"    again:   --replay '{case.written()}'")
@@ -216,7 +235,7 @@ def header_wrong() -> Iterator[str]:
     """The header names every number of a refusal, and each once."""
     found = re.findall(r"^    SELAHMUR_(\w+) = (\d+)", HEADER.read_text(), re.M)
     numbers = [int(n) for name, n in found if not name.endswith("_NUMBERS")]
-    if numbers != list(range(24)):
+    if numbers != list(range(25)):
         yield f"the header's refusals are {numbers}"
 
 
@@ -264,36 +283,44 @@ class Library:
             if name == "accept":
                 numbers[-1] = ctypes.c_uint8
             lent = array if name in TEXT_ALONE else array * 2
+            more = array if name == "page" else []
             function = getattr(loaded, f"selahmur_{name}")
-            function.argtypes = [*lent, *numbers, *array]
+            function.argtypes = [*lent, *numbers, *more, *array]
             function.restype = None
             self.functions[name] = function
         self.text, self.table = Lent(200_000), Lent(200_000)
-        self.answer = Lent(8 * 100)
+        self.buffer, self.answer = Lent(200_000), Lent(8 * 100)
 
-    def call(self, case: Case) -> tuple[list[int], bytes, list[str]]:
-        """Make the call: the array, the table, and what else is wrong."""
+    def call(self, case: Case) -> tuple[list[int], bytes, bytes, list[str]]:
+        """Make the call: the array, the table, the buffer, and what else is wrong."""
         lent = [self.text.lend(case.text), len(case.text)]
         if case.name not in TEXT_ALONE:
             lent += [self.table.lend(case.table), len(case.table)]
         else:
             self.table.lend(case.table)
+        more = [self.buffer.lend(case.buffer), len(case.buffer)]
         array = struct.pack(f"={case.room}Q", *unwritten(case.room))
         answer = [self.answer.lend(array), case.room]
-        self.functions[case.name](*lent, *case.numbers, *answer)
+        if case.name == "page":
+            self.functions[case.name](*lent, *case.numbers, *more, *answer)
+        else:
+            self.functions[case.name](*lent, *case.numbers, *answer)
         text, text_kept = self.text.back()
         table, table_kept = self.table.back()
+        buffer, buffer_kept = self.buffer.back()
         array, answer_kept = self.answer.back()
         wrong = []
         if text != case.text:
             wrong.append("the text is changed")
-        if not text_kept:
-            wrong.append("bytes around the text are changed")
-        if not table_kept:
-            wrong.append("bytes around the table are changed")
-        if not answer_kept:
-            wrong.append("bytes around the answer are changed")
-        return list(struct.unpack(f"={case.room}Q", array)), table, wrong
+        for name, kept in (
+            ("text", text_kept),
+            ("table", table_kept),
+            ("buffer", buffer_kept),
+            ("answer", answer_kept),
+        ):
+            if not kept:
+                wrong.append(f"bytes around the {name} are changed")
+        return list(struct.unpack(f"={case.room}Q", array)), table, buffer, wrong
 
 
 def unwritten(room: int) -> list[int]:
@@ -334,26 +361,39 @@ class Comparison:
         self, name: str, text: bytes, table: bytes, numbers: tuple[int, ...]
     ) -> tuple[list[int], bytes]:
         """Make a call with an array of some length; what the model gives."""
-        case = Case(name, text, table, numbers, self.room(self.widths[name]))
+        case = self.case(name, text, table, numbers, self.room(self.widths[name]))
         return self.compare(case)
+
+    def case(
+        self, name: str, text: bytes, table: bytes, numbers: tuple[int, ...], room: int
+    ) -> Case:
+        """A call; page's last number is how long a buffer is lent, of any content."""
+        if name == "page":
+            node, length = numbers
+            return Case(name, text, table, (node,), room, self.rng.randbytes(length))
+        return Case(name, text, table, numbers, room)
 
     def compare(self, case: Case) -> tuple[list[int], bytes]:
         """Make one call of both and compare them; what the model gives."""
         self.calls += 1
         keep(self.shared, self.calls, case)
-        answer, after = model(case)
-        array, table, wrong = self.library.call(case)
+        answer, *after = model(case)
+        array, *bytes_now, wrong = self.library.call(case)
         if len(answer) != self.widths.get(case.name):
             wrong.append("the header has another count of numbers")
         if array != (answer + unwritten(case.room)[len(answer) :])[: case.room]:
             wrong.append("another answer")
-        if table != after:
-            at = next(i for i, (a, b) in enumerate(zip(table, after)) if a != b)
-            wrong.append(f"byte {at} of the table is {table[at]} and not {after[at]}")
+        for name, now, right in zip(("table", "buffer"), bytes_now, after):
+            if now != right:
+                at = next(i for i, (a, b) in enumerate(zip(now, right)) if a != b)
+                told = f"{now[at]} and not {right[at]}"
+                wrong.append(f"byte {at} of the {name} is {told}")
         if wrong:
             self.differences.append(Difference(case, answer, array, wrong))
         self.count(case, answer)
-        return answer, after
+        if case.name == "page" and answer[0] == 0:
+            self.count_page(case, after[1])
+        return answer, after[0]
 
     def count(self, case: Case, answer: list[int]) -> None:
         """Count the call, and what it said."""
@@ -370,6 +410,15 @@ class Comparison:
         if answer[0] == 0 and name in tables.KINDS_TOLD:
             kind = tables.kind_told(name, case.text, case.numbers, answer)
             self.counts[name, f"kind {kind}"] += 1
+
+    def count_page(self, case: Case, buffer: bytes) -> None:
+        """Count what stands on a page, and whether more was lent than it takes."""
+        page = tables.page_room(checker.parse(case.text).sizes.states)
+        room = "just so" if len(buffer) == page else "to spare"
+        self.counts["page", f"room {room}"] += 1
+        lines = buffer[:page].splitlines()[1:]
+        for mark in set(b"".join(line[15:] for line in lines)) & set(b".01"):
+            self.counts["page", f"mark {mark:c}"] += 1
 
     def missing(self) -> Iterator[str]:
         """What should have come and never did."""
@@ -391,15 +440,15 @@ class Comparison:
             words = [key for key in TOLD.get(name, []) if key in said]
             parts = [f"{key}: {said[key]}" for key in [*numbers, *words]]
             print(f"{name}: {', '.join(parts)}")
-        self.differences.sort(key=lambda one: (len(one.case.text), len(one.case.table)))
-        for difference in self.differences[:SHOWN]:
-            difference.show()
+        for one in sorted(self.differences, key=Difference.size)[:SHOWN]:
+            one.show()
 
 
 def keep(shared: mmap.mmap, calls: int, case: Case) -> None:
     """Note the case at work where the waiting process finds it."""
-    head = json.dumps([case.name, len(case.text), case.numbers, case.room]).encode()
-    noted = head + b"\n" + case.text + case.table
+    sizes = [len(case.text), len(case.table)]
+    head = json.dumps([case.name, *sizes, case.numbers, case.room]).encode()
+    noted = head + b"\n" + case.text + case.table + case.buffer
     shared[:16] = calls.to_bytes(8, "little") + len(noted).to_bytes(8, "little")
     shared[16 : 16 + len(noted)] = noted
 
@@ -416,8 +465,9 @@ def kept(shared: mmap.mmap) -> Case | None:
     if length == 0:
         return None
     head, _, data = shared[16 : 16 + length].partition(b"\n")
-    name, size, numbers, room = json.loads(head)
-    return Case(name, data[:size], data[size:], tuple(numbers), room)
+    name, size, more, numbers, room = json.loads(head)
+    text, table, buffer = data[:size], data[size:][:more], data[size + more :]
+    return Case(name, text, table, tuple(numbers), room, buffer)
 
 
 # --------------------------------------------------------------------------
@@ -471,7 +521,9 @@ class Play:
     def numbers(self, name: str) -> tuple[int, ...]:
         """Numbers for a call on a table, sometimes far out of range."""
         found = list(fitted(name, tables.any_numbers(self.rng, self.job, name)))
-        places = len(found) - (name == "accept")
+        places = len(found) - (name in ("accept", "page"))
+        if name == "page" and self.rng.randrange(30) == 0:
+            found[-1] += 2**16
         if places and self.rng.randrange(12) == 0:
             at = self.rng.randrange(places)
             near = [found[at] + 2**32, found[at] + 2**8, 2**64 - 1 - found[at]]
@@ -510,7 +562,7 @@ class Play:
         elif way == 4:
             rule_call(self.comparison, self.rng.choice([self.text, self.spoilt()]))
             rule_call(self.comparison, some_rule(self.rng), self.table)
-        elif name in ("step", "offer", "look", "close"):
+        elif name in ("step", "offer", "look", "close", "page"):
             self.call(name, *self.numbers(name))
         else:
             self.aside(name, self.table, *self.numbers(name))
@@ -578,7 +630,7 @@ class Play:
         self.begin()
         for _ in range(turns):
             for _ in range(self.rng.randrange(stray)):
-                way = self.rng.randrange(8)
+                way = self.rng.randrange(9)
                 if way < 2:
                     self.step()
                 elif way < 4:
@@ -587,6 +639,8 @@ class Play:
                     self.deliver()
                 elif way < 7:
                     self.call("look", *self.numbers("look"))
+                elif way < 8:
+                    self.call("page", *self.numbers("page"))
                 else:
                     self.nuisance()
             if self.rng.randrange(3) == 0:
@@ -599,6 +653,8 @@ class Play:
             self.call(name)
         for node in (checker.NO_NODE, self.job.owner[0]):
             self.call("look", node, 0, self.job.sizes.formulas - 1)
+        for node in range(self.job.sizes.nodes):
+            self.call("page", node, tables.page_room(self.job.sizes.states))
 
     # ---- lists from any table
 
@@ -617,7 +673,8 @@ class Play:
                 self.table = tables.good_table(self.rng, self.text)
             name = self.rng.choice(
                 ["step"] * 4 + ["offer"] * 4 + ["accept"] * 5 + ["look"] * 4
-                + ["close"] * 3 + ["finish", "fresh"] * (self.rng.randrange(8) == 0)
+                + ["close"] * 3 + ["page"] * 4
+                + ["finish", "fresh"] * (self.rng.randrange(8) == 0)
             )  # fmt: skip
             self.call(name, *self.numbers(name))
 
@@ -663,7 +720,8 @@ class Play:
         other = generate.owners(self.rng, len(self.picture.owner), nodes)
         text = replace(self.picture, owner=other).text()
         for _ in range(count):
-            name = self.rng.choice(["step", "step", "offer", "accept", "look", "close"])
+            names = ["step", "step", "offer", "accept", "look", "close", "page"]
+            name = self.rng.choice(names)
             self.call(name, *self.numbers(name), text=self.rng.choice([None, text]))
 
 
@@ -733,6 +791,7 @@ def large_list(play: Play) -> None:
         play.offer()
         play.deliver()
         play.call("look", *play.numbers("look"))
+        play.call("page", *play.numbers("page"))
         play.nuisance()
         play.line()
     play.call("close")
@@ -761,7 +820,7 @@ def computed_cases(comparison: Comparison) -> None:
 
     def call(name: str, table: bytes, numbers: tuple[int, ...]) -> bytes:
         room = comparison.widths[name]
-        case = Case(name, trial.text, table, fitted(name, numbers), room)
+        case = comparison.case(name, trial.text, table, fitted(name, numbers), room)
         return comparison.compare(case)[1]
 
     for trial in trials.trials(trials.SEED, trials.COUNT):
@@ -770,6 +829,9 @@ def computed_cases(comparison: Comparison) -> None:
             call("line", table, (at,))
         for name, numbers in trial.calls:
             table = call(name, table, numbers)
+    for text, table, node, buffer in page_cases.chosen():
+        room = comparison.widths["page"]
+        comparison.compare(Case("page", text, table, (node,), room, buffer))
 
 
 def faulty_texts(comparison: Comparison) -> None:

@@ -5,9 +5,10 @@ where it changes that one, and nothing else.  Names in quotes are document 01's
 headings.  The standard library is all it needs.
 
 * `read`, `line`: the job text.
-* `fresh`, `step`, `offer`, `accept`, `look`, `close`, `finish`: the calls on a
-  table.  Each takes the text, the table and its numbers, and gives all the
-  numbers of the answer (number and line first) and the table afterwards.
+* `fresh`, `step`, `offer`, `accept`, `look`, `close`, `finish`, `page`: the calls
+  on a table.  Each takes the text, the table and its numbers, and gives all the
+  numbers of the answer (number and line first) and the table afterwards.  What
+  page writes is in pages.py.
 * `truth`: CTL truth on the uncut structure, by graph search; it shares nothing
   with the rules of a step.
 * `verdict_line`: what the program `verdict` prints.
@@ -45,6 +46,9 @@ owner of the state (document 02, (ii))."""
 
 LONGEST = 25_877
 """The bytes of the longest text ("Job text")."""
+
+PAGE_LINE = 80
+"""The bytes of a line of a page: 79 columns and byte 10 (document 02, (v))."""
 
 Answer = tuple[list[int], bytes]
 """All the numbers of an answer, and the table afterwards."""
@@ -673,6 +677,17 @@ def finish(text: bytes, table: bytes) -> Answer:
     after = bytearray(table)
     numbers = do_rounds(job, after, Rounds(job, after).round)
     return [0, 0, *numbers], bytes(after)
+
+
+@call(2)
+def page(text: bytes, table: bytes, node: int, room: int) -> Answer:
+    """Questions 1 to 11, 24 (document 02, (v)), where the buffer that is lent has
+    `room` bytes.  The table is only read."""
+    job = parse(text)
+    ask_table(job, table)
+    ask(node < job.sizes.nodes, 11)
+    ask(room >= PAGE_LINE * (job.sizes.states + 1), 24)
+    return [0, 0], bytes(table)
 
 
 # --------------------------------------------------------------------------

@@ -1,12 +1,13 @@
 """The models against the project's formal definitions.
 
-    compare.py CLONE [--seed N] [--count N] [--texts N] [--batch N]
+    compare.py CLONE [--seed N] [--count N] [--texts N] [--pages N] [--batch N]
 
 Takes the cases of `trials.py` (the gate's, where no option says otherwise), lets
 the model of `checker.py` answer them, and has the prover compute the definitions
 of the crate cells on them (`prover.py`).  A long finish is computed round by
 round, and the laws of `RandomRounds.antt` make its answer of the rounds.  Then
-the same for rule text, as `compare_rules.py` has it, with TEXTS draws besides.
+the same for rule text, as `compare_rules.py` has it, with TEXTS draws besides,
+and for pages, as `compare_pages.py` has it, with PAGES draws besides.
 CLONE is changed: give a clone of the repository, not the repository.
 
 The cases must show every answer of every call and notice every mutant of
@@ -23,6 +24,7 @@ from dataclasses import dataclass
 from typing import Iterator
 
 import checker
+import compare_pages
 import compare_rules
 import mutants
 import tables
@@ -383,23 +385,30 @@ def main() -> int:
     options.add_argument("--seed", type=int, default=trials.SEED)
     options.add_argument("--count", type=int, default=trials.COUNT)
     options.add_argument("--texts", type=int, default=0)
+    options.add_argument("--pages", type=int, default=0)
     options.add_argument("--batch", type=int, default=200)
-    options.add_argument("--plant", action="store_true", help="make two cases wrong")
+    options.add_argument("--plant", action="store_true", help="make three cases wrong")
     chosen = options.parse_args()
     jobs = trials.trials(chosen.seed, chosen.count)
     describe(jobs)
-    missing = trials.missing(jobs)
-    tell(missing, len(mutants.MODELS), len(trials.WANTED))
+    missing = [trials.missing(jobs)]
+    tell(missing[0], len(mutants.MODELS), len(trials.WANTED))
     texts = compare_rules.cases(chosen.seed, chosen.texts)
     print("rule:", compare_rules.given(texts))
-    unshown = compare_rules.missing(texts)
-    tell(unshown, len(mutants.RULE_MODELS), len(compare_rules.NUMBERS))
+    missing.append(compare_rules.missing(texts))
+    tell(missing[1], len(mutants.RULE_MODELS), len(compare_rules.NUMBERS))
+    papers = compare_pages.cases(chosen.seed, chosen.pages)
+    print("pages:", compare_pages.given(papers))
+    missing.append(compare_pages.missing(papers))
+    tell(missing[2], len(mutants.PAGE_MODELS), len(compare_pages.NUMBERS))
     if chosen.plant:
-        plant(jobs, chosen.seed)
-        plant(texts, chosen.seed)
-    found = Jobs(chosen.clone).compare(jobs, chosen.batch)
+        for cases in (jobs, texts, papers):
+            plant(cases, chosen.seed)
+    # Pages first: their crate names cells, which is proved again once it has cases.
+    found = compare_pages.PageText(chosen.clone).compare(papers, chosen.batch)
+    found += Jobs(chosen.clone).compare(jobs, chosen.batch)
     found += compare_rules.RuleText(chosen.clone).compare(texts, chosen.batch)
-    return 1 if found or missing or unshown else 0
+    return 1 if found or any(missing) else 0
 
 
 if __name__ == "__main__":

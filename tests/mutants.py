@@ -2,8 +2,8 @@
 
     mutants.py [--seed N] [--count N]
 
-Each mutant is a model, that of checker.py or that of rules.py, that reads one
-thing otherwise, in one place of the source or in a few.  For each the cases are
+Each mutant is a model, that of checker.py, of rules.py or of pages.py, that reads
+one thing otherwise, in one place of the source or in a few.  For each the cases are
 answered again and those that change are counted; a mutant that changes none is a
 gap in the cases.  Without options the cases are the gate's.  A mutant of truth on
 the uncut structure changes no answer: it has to differ from what finish fills on
@@ -22,9 +22,11 @@ from typing import TYPE_CHECKING, Iterable, Iterator
 
 import checker
 import generate
+import pages
 import rules
 
 if TYPE_CHECKING:
+    import page_cases
     import trials
 
 SET_MUTANTS: list[tuple[str, ...]] = [
@@ -175,6 +177,9 @@ MUTANTS: list[tuple[str, ...]] = [
     ("offer: EG and AG not temporal", "TEMPORAL, 13)\n    value", "TEMPORAL[:4], 13)\n    value"),
     ("accept: EG and AG not temporal", "TEMPORAL, 13)\n    ask(value", "TEMPORAL[:4], 13)\n    ask(value"),
     ("EG and AG not copied", "if rule.kind in TEMPORAL]", "if rule.kind in TEMPORAL[:4]]"),
+    ("page: the node steps first", "    return [0, 0], bytes(table)\n",
+     "    after = bytearray(table)\n    step_node(job, after, node)\n    return [0, 0], bytes(after)\n"),
+    ("page: the table is finished first", "    return [0, 0], bytes(table)\n", "    return [0, 0], finish(text, table)[1]\n"),
 ]  # fmt: skip
 """Wrong readings of what a call does with an accepted text."""
 
@@ -292,6 +297,135 @@ reader that goes over the lines once may have them.
 That the pair before is the last right one, or that what was kept for 7 is lost
 where a line fails 6, are no mutants: up to the first line that fails 6 all lines
 are right, and from there on nothing but that line is told."""
+
+
+PAGE_QUESTION_MUTANTS: list[tuple[str, ...]] = [
+    ("page: 24 before 11",
+     "    ask(node < job.sizes.nodes, 11)\n    ask(room >= PAGE_LINE * (job.sizes.states + 1), 24)\n",
+     "    ask(room >= PAGE_LINE * (job.sizes.states + 1), 24)\n    ask(node < job.sizes.nodes, 11)\n"),
+    ("page: 24 before 10", "    ask_table(job, table)\n    ask(node < job.sizes.nodes, 11)\n    ask(room",
+     "    ask(len(table) == job.size(), 9)\n    ask(room >= PAGE_LINE * (job.sizes.states + 1), 24)\n"
+     "    ask_table(job, table)\n    ask(node < job.sizes.nodes, 11)\n    ask(room"),
+    ("page: 24 before 9", "    ask_table(job, table)\n    ask(node < job.sizes.nodes, 11)\n    ask(room",
+     "    ask(room >= PAGE_LINE * (job.sizes.states + 1), 24)\n"
+     "    ask_table(job, table)\n    ask(node < job.sizes.nodes, 11)\n    ask(room"),
+    ("page: 11 before 10", "    ask_table(job, table)\n    ask(node < job.sizes.nodes, 11)\n    ask(room",
+     "    ask(len(table) == job.size(), 9)\n    ask(node < job.sizes.nodes, 11)\n    ask_table(job, table)\n    ask(room"),
+    ("page: 10 not asked", "    ask_table(job, table)\n    ask(node < job.sizes.nodes, 11)\n    ask(room",
+     "    ask(len(table) == job.size(), 9)\n    ask(node < job.sizes.nodes, 11)\n    ask(room"),
+    ("page: 11 lets N by", "ask(node < job.sizes.nodes, 11)\n    ask(room", "ask(node <= job.sizes.nodes, 11)\n    ask(room"),
+    ("page: 255 known", "ask(node < job.sizes.nodes, 11)\n    ask(room", "ask(node < job.sizes.nodes or node == NO_NODE, 11)\n    ask(room"),
+    ("page: 24 never", "    ask(room >= PAGE_LINE * (job.sizes.states + 1), 24)\n", ""),
+    ("page: 24 for 80 x S", "PAGE_LINE * (job.sizes.states + 1), 24", "PAGE_LINE * job.sizes.states, 24"),
+    ("page: 24 for 79 x (S + 1)", "room >= PAGE_LINE * (", "room >= (PAGE_LINE - 1) * ("),
+    ("page: 24 for one byte less", "PAGE_LINE * (job.sizes.states + 1), 24", "PAGE_LINE * (job.sizes.states + 1) - 1, 24"),
+    ("page: 24 for one byte more", "room >= PAGE_LINE", "room > PAGE_LINE"),
+    ("page: 24 for the fragment's states", "(job.sizes.states + 1), 24", "(len(job.fragment[node]) + 1), 24"),
+    ("page: a longer buffer refused", "room >= PAGE_LINE", "room == PAGE_LINE"),
+    ("page: 24 with a line", "(job.sizes.states + 1), 24)", "(job.sizes.states + 1), 24, 1)"),
+    ("page: the answer tells the lines", "    return [0, 0], bytes(table)\n", "    return [0, 0, job.sizes.states + 1], bytes(table)\n"),
+]  # fmt: skip
+"""Wrong readings of page's questions and of its answer."""
+
+
+PAGE_MUTANTS: list[tuple[str, ...]] = [
+    # The heading.
+    ("heading missing", "[heading(job), *rows]", "rows"),
+    ("heading behind the states", "[heading(job), *rows]", "[*rows, heading(job)]"),
+    ("heading: numbers from 1", 'b"%2d" % k for k', 'b"%2d" % (k + 1) for k'),
+    ("heading left-justified", 'b"%2d" % k for k', 'b"%-2d" % k for k'),
+    ("heading with zeros before", 'b"%2d" % k for k', 'b"%02d" % k for k'),
+    ("heading: the last digit alone", 'b"%2d" % k for k', 'b"%2d" % (k % 10) for k'),
+    ("heading: a space before every number", 'b"%2d" % k for k', 'b" %d" % k for k'),
+    ("heading in three columns", 'b"%2d" % k for k', 'b"%3d" % k for k'),
+    ("heading in one column", 'b"%2d" % k for k', 'b"%d" % k for k'),
+    ("heading behind 14 spaces", 'b" " * 15', 'b" " * 14'),
+    ("heading behind 16 spaces", 'b" " * 15', 'b" " * 16'),
+    ("heading of all 32 numbers", "numbers = range(job.sizes.formulas)", "numbers = range(32)"),
+    ("heading: numbers downward", "numbers = range(job.sizes.formulas)", "numbers = reversed(range(job.sizes.formulas))"),
+    ("heading: kinds for numbers", "numbers = range(job.sizes.formulas)", "numbers = [rule.kind for rule in job.rules]"),
+    # The numbers of a state.
+    ("states from 1", "numbers = (state,", "numbers = (state + 1,"),
+    ("state and owner exchanged", "(state, job.owner[state], job.label[state])", "(job.owner[state], state, job.label[state])"),
+    ("owner and label exchanged", "(state, job.owner[state], job.label[state])", "(state, job.label[state], job.owner[state])"),
+    ("no owner", "(state, job.owner[state], job.label[state])", "(state, job.label[state])"),
+    ("the node for the owner", "(state, job.owner[state],", "(state, node,"),
+    ("the label of the next state", "job.label[state])", "job.label[(state + 1) % job.sizes.states])"),
+    ("the label cut to a byte", "job.label[state])", "job.label[state] % 256)"),
+    ("the label of 15 atoms", "job.label[state])", "job.label[state] % 2**15)"),
+    ("label in four columns", 'b"".join(b"%5d" % n for n in numbers)', 'b"%5d%5d%4d" % numbers'),
+    ("label of four digits", 'b"".join(b"%5d" % n for n in numbers)', '(b"%5d%5d" % numbers[:2] + (b"%5d" % numbers[2])[-4:].rjust(5))'),
+    ("a space before every number", 'b"%5d" % n', 'b" %4d" % n'),
+    ("numbers to the left", 'b"%5d" % n', 'b"%-5d" % n'),
+    ("numbers with zeros before", 'b"%5d" % n', 'b"%05d" % n'),
+    # The cells.
+    ("2 for empty", 'EMPTY: b"."', 'EMPTY: b"2"'),
+    ("a space for empty", 'EMPTY: b"."', 'EMPTY: b" "'),
+    ("0 for empty", 'EMPTY: b"."', 'EMPTY: b"0"'),
+    ("0 and 1 exchanged", 'FALSE: b"0", TRUE: b"1"', 'FALSE: b"1", TRUE: b"0"'),
+    ("bytes 0 and 1", 'FALSE: b"0", TRUE: b"1"', 'FALSE: b"\\0", TRUE: b"\\1"'),
+    ("the space behind the mark", 'b" " + MARKS[cell]', 'MARKS[cell] + b" "'),
+    ("marks without a space", 'b" " + MARKS[cell]', 'MARKS[cell]'),
+    ("marks in three columns", 'b" " + MARKS[cell]', 'b"  " + MARKS[cell]'),
+    ("subformulas downward", "for cell in cells)", "for cell in cells[::-1])"),
+    ("the last subformula left out", "for cell in cells)", "for cell in cells[:-1])"),
+    ("the page of node 0", "job.cell(node, state, 0)", "job.cell(0, state, 0)"),
+    ("the page of the next node", "job.cell(node, state, 0)", "job.cell((node + 1) % job.sizes.nodes, state, 0)"),
+    ("the page of the last node", "job.cell(node, state, 0)", "job.cell(job.sizes.nodes - 1, state, 0)"),
+    ("the owner's cells", "job.cell(node, state, 0)", "job.cell(job.owner[state], state, 0)"),
+    ("cells of the next state", "job.cell(node, state, 0)", "job.cell(node, (state + 1) % job.sizes.states, 0)"),
+    ("cells by subformula, then by state", "cells = table[first : first + job.sizes.formulas]",
+     "cells = table[job.cell(node, 0, 0) :][state :: job.sizes.states][: job.sizes.formulas]"),
+    ("cells by state, then by node", "cells = table[first : first + job.sizes.formulas]",
+     "cells = table[(state * job.sizes.nodes + node) * job.sizes.formulas :][: job.sizes.formulas]"),
+    ("cells of border states not shown", "cells = table[first : first + job.sizes.formulas]",
+     "cells = table[first : first + job.sizes.formulas] if state not in job.border[node] else bytes([EMPTY]) * job.sizes.formulas"),
+    ("cells that a step would fill", "page(checker.parse(text), table, node)", "page(checker.parse(text), checker.step(text, table, node)[1], node)"),
+    ("cells that finish would fill", "page(checker.parse(text), table, node)", "page(checker.parse(text), checker.finish(text, table)[1], node)"),
+    # The lines.
+    ("states outside the fragment left out", "for s in range(job.sizes.states)]", "for s in job.fragment[node]]"),
+    ("states of other owners left out", "for s in range(job.sizes.states)]", "for s in job.owned[node]]"),
+    ("the last state left out", "for s in range(job.sizes.states)]", "for s in range(job.sizes.states - 1)]"),
+    ("states downward", "for s in range(job.sizes.states)]", "for s in reversed(range(job.sizes.states))]"),
+    ("the node's states first", "for s in range(job.sizes.states)]", "for s in sorted(range(job.sizes.states), key=lambda s: job.owner[s] != node)]"),
+    ("lines of 78 columns", "COLUMNS = 79", "COLUMNS = 78"),
+    ("lines of 80 columns", "COLUMNS = 79", "COLUMNS = 80"),
+    ("lines not filled", "line.ljust(COLUMNS)", "line"),
+    ("heading not filled", "line.ljust(COLUMNS)", "(line.ljust(COLUMNS) if line in rows else line)"),
+    ("states' lines not filled", "line.ljust(COLUMNS)", "(line if line in rows else line.ljust(COLUMNS))"),
+    ("the last line not filled", "line.ljust(COLUMNS)", "(line if line == rows[-1] else line.ljust(COLUMNS))"),
+    ("lines filled with bytes 0", "line.ljust(COLUMNS)", "line.ljust(COLUMNS, b'\\0')"),
+    ("lines filled with dots", "line.ljust(COLUMNS)", "line.ljust(COLUMNS, b'.')"),
+    ("lines filled from the left", "line.ljust(COLUMNS)", "line.rjust(COLUMNS)"),
+    ("byte 13", 'line.ljust(COLUMNS) + b"\\n"', 'line.ljust(COLUMNS) + b"\\r"'),
+    ("bytes 13 and 10", 'line.ljust(COLUMNS) + b"\\n"', 'line.ljust(COLUMNS) + b"\\r\\n"'),
+    ("byte 0 behind a line", 'line.ljust(COLUMNS) + b"\\n"', 'line.ljust(COLUMNS) + b"\\0"'),
+    ("no byte 10", 'line.ljust(COLUMNS) + b"\\n"', 'line.ljust(COLUMNS)'),
+    ("byte 10 stays behind the last line", "lines + buffer[len(lines) :]", "lines[:-1] + buffer[len(lines) - 1 :]"),
+    # The buffer.
+    ("bytes past the lines are spaces", "lines + buffer[len(lines) :]", "lines.ljust(len(buffer))"),
+    ("bytes past the lines are 0", "lines + buffer[len(lines) :]", "lines.ljust(len(buffer), b'\\0')"),
+    ("the byte past the lines is 0", "lines + buffer[len(lines) :]", "(lines + b'\\0' + buffer[len(lines) + 1 :])[: len(buffer)]"),
+    ("the lines at the end of the buffer", "lines + buffer[len(lines) :]", "buffer[: len(buffer) - len(lines)] + lines"),
+    ("the page again, as often as there is room", "lines + buffer[len(lines) :]", "(lines * (len(buffer) // len(lines)) + buffer[-(len(buffer) % len(lines)) :])[: len(buffer)]"),
+    ("an accepted call writes nothing", "lines + buffer[len(lines) :]", "buffer"),
+    ("a refused call clears the buffer", "return answer, bytes(buffer)", "return answer, bytes(len(buffer))"),
+    ("a refused text clears the buffer", "return answer, bytes(buffer)", "return answer, bytes(len(buffer)) if answer[0] < 9 else buffer"),
+    ("a refused table clears the buffer", "return answer, bytes(buffer)", "return answer, bytes(len(buffer)) if 9 <= answer[0] <= 10 else buffer"),
+    ("11 clears the buffer", "return answer, bytes(buffer)", "return answer, bytes(len(buffer)) if answer[0] == 11 else buffer"),
+    ("24 clears the buffer", "return answer, bytes(buffer)", "return answer, bytes(len(buffer)) if answer[0] == 24 else buffer"),
+    ("24 fills the buffer with spaces", "return answer, bytes(buffer)", "return answer, b' ' * len(buffer) if answer[0] == 24 else buffer"),
+    ("24 writes what fits", "return answer, bytes(buffer)",
+     "return answer, page(checker.parse(text), table, node)[: len(buffer)] if answer[0] == 24 else buffer"),
+    ("24 writes the lines that fit", "return answer, bytes(buffer)",
+     "fit = page(checker.parse(text), table, node)[: len(buffer) // 80 * 80] if answer[0] == 24 else b''\n        return answer, fit + buffer[len(fit) :]"),
+    # The node that is not named.
+    ("255 read as the owner", "checker.page(text, table, node, len", "checker.page(text, table, node if node != NO_NODE else 0, len",
+     "first = job.cell(node, state, 0)", "first = job.cell(node if node != NO_NODE else job.owner[state], state, 0)"),
+    ("255 read as node 0", "checker.page(text, table, node, len", "checker.page(text, table, node % 255, len",
+     "page(checker.parse(text), table, node)\n", "page(checker.parse(text), table, node % 255)\n"),
+]  # fmt: skip
+"""Wrong readings of the page and of the buffer."""
 
 
 TRUTH_MUTANTS: list[tuple[str, ...]] = [
@@ -550,6 +684,15 @@ def set_modules() -> Iterator[tuple[str, types.ModuleType]]:
             yield f"{kinds}: {mutant[0]}", made
 
 
+def page_modules() -> Iterator[tuple[str, types.ModuleType]]:
+    """The mutants of the page, by name, and the page by those of its questions."""
+    yield from modules(pages, PAGE_MUTANTS).items()
+    for name, asking in ASKING_MODELS.items():
+        made = module(pages, name)
+        made.checker = asking
+        yield name, made
+
+
 def answers(model: types.ModuleType, trial: trials.Trial) -> list[object]:
     """All that the model says of a case."""
     said: list[object] = []
@@ -568,9 +711,11 @@ def answers(model: types.ModuleType, trial: trials.Trial) -> list[object]:
 SET_MODELS = dict(set_modules())
 FAULT_MODELS = modules(checker, FAULT_MUTANTS)
 READER_MODELS = modules(checker, TEXT_MUTANTS) | FAULT_MODELS
-MODELS = SET_MODELS | modules(checker, MUTANTS) | READER_MODELS
+ASKING_MODELS = modules(checker, PAGE_QUESTION_MUTANTS)
+MODELS = SET_MODELS | modules(checker, MUTANTS) | READER_MODELS | ASKING_MODELS
 TRUTH_MODELS = modules(checker, TRUTH_MUTANTS)
 RULE_MODELS = modules(rules, RULE_MUTANTS)
+PAGE_MODELS = dict(page_modules())
 """The mutants as models."""
 
 
@@ -613,6 +758,22 @@ def rule_noticed(text: bytes, buffer: bytes) -> list[str]:
     ]
 
 
+def page_answer(model: types.ModuleType, case: page_cases.PageCase) -> object:
+    """All that the model says of a page, and the buffer afterwards."""
+    try:
+        return model.lent(*case)
+    except Exception as wrong:  # a mutant may run into a wall
+        return repr(wrong)
+
+
+def page_noticed(case: page_cases.PageCase) -> list[str]:
+    """The mutants that write another page than the model."""
+    right = page_answer(pages, case)
+    return [
+        name for name, model in PAGE_MODELS.items() if page_answer(model, case) != right
+    ]
+
+
 def tally(names: Iterable[str], lists: Iterable[list[str]]) -> dict[str, int]:
     """How many of the lists have each name."""
     found = dict.fromkeys(names, 0)
@@ -636,6 +797,11 @@ def rule_counts(cases: Iterable[tuple[bytes, bytes]]) -> dict[str, int]:
     return tally(RULE_MODELS, (rule_noticed(*case) for case in cases))
 
 
+def page_counts(cases: Iterable[page_cases.PageCase]) -> dict[str, int]:
+    """How many of the pages notice each mutant."""
+    return tally(PAGE_MODELS, map(page_noticed, cases))
+
+
 def show(found: dict[str, int], cases: int) -> int:
     """Print how many cases notice each mutant; how many mutants none does."""
     for name, times in found.items():
@@ -647,6 +813,7 @@ def show(found: dict[str, int], cases: int) -> int:
 
 def main() -> int:
     """The program."""
+    import page_cases
     import rule_texts
     import trials
 
@@ -662,6 +829,7 @@ def main() -> int:
     jobs += [generate.tangled(rng, 6, 8, 4) for _ in range(chosen.count)]
     unnoticed += show(truth_counts(job.text() for job in jobs), len(jobs))
     unnoticed += show(rule_counts(texts), len(texts))
+    unnoticed += show(page_counts(page_cases.chosen()), len(page_cases.chosen()))
     return 1 if unnoticed else 0
 
 

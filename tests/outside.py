@@ -63,6 +63,7 @@ class Case:
     told: bytes | None = None  # the line that the maker of the text expects
     structure: str = ""  # cases that share it are cuttings of one structure
     slowly: bool = False  # handed over in pieces
+    arguments: tuple[bytes, ...] = ()
 
 
 @dataclass
@@ -218,7 +219,7 @@ class Run:
         self.file.seek(0)
         pipe = subprocess.PIPE
         self.process = subprocess.Popen(
-            [program],
+            [program, *case.arguments],
             stdin=pipe if case.slowly else self.file,
             stdout=pipe,
             stderr=pipe,
@@ -305,6 +306,8 @@ class Comparison:
         self.differences.sort(key=lambda difference: len(difference.case.text))
         for difference in self.differences[:SHOWN]:
             print(f"DIFFERS: {difference.case.name}: {'; '.join(difference.wrong)}")
+            for argument in difference.case.arguments[:SHOWN]:
+                print("    argument", argument[:80])
             for part in difference.case.text.splitlines(keepends=True):
                 print("   ", part)
             print("model:  ", difference.model)

@@ -7,7 +7,8 @@ at the owner, the sets of a step against all sets, truth by a second definition
 on tiny jobs, finish by plain rounds, EG and AG against what is worked out by
 hand, and every damaged text against what it was made for.  Rule text by a second
 way of reading, every short text among them, against what is told of it by hand,
-and the truth of a rule against that of its lines.
+and the truth of a rule against that of its lines.  Pages against what is told of
+them by hand, and read back: they are equal exactly where the node's cells are.
 """
 
 from __future__ import annotations
@@ -21,6 +22,7 @@ from functools import lru_cache
 from typing import Iterator
 
 import checker
+import pages
 import rule_texts
 import rules
 from checker import AG, ALL_ALONG, AND, ATOM, AU, AX, EG, EU, EX, NOT, SETS, UNTILS
@@ -47,7 +49,9 @@ from tables import (
     calls,
     fresh_table,
     inside,
+    page_room,
     settled_table,
+    some_room,
     wrong_length_table,
 )
 
@@ -522,6 +526,117 @@ def rule_test(rng: random.Random, count: int) -> None:
     )
 
 
+# --------------------------------------------------------------------------
+# Pages
+# --------------------------------------------------------------------------
+
+def told_page(*lines: str) -> bytes:
+    """A page by its lines, without the spaces behind."""
+    return "".join(f"{line:79}\n" for line in lines).encode()
+
+
+def check_pages_told() -> None:
+    """Pages worked out by hand: cells that no rule gives, states outside the
+    fragment, a label that touches the owner, 32 subformulas; and the questions."""
+    edges, rules = [(0, 1), (1, 0), (2, 2)], [(ATOM, 0, 0), (ATOM, 1, 0), (AU, 0, 1)]
+    three = Picture(3, [1, 0, 2], [40_000, 7, 1_234], edges, rules)
+    table = bytes([0, 1, 2, 1, 2, 0, 2, 2, 2])
+    table += bytes([2, 2, 1, 0, 0, 0, 2, 2, 2])
+    table += bytes([2, 2, 2, 2, 2, 2, 1, 2, 1])
+    for node, cells in enumerate(
+        (
+            ("0 1 .", "1 . 0", ". . ."),
+            (". . 1", "0 0 0", ". . ."),
+            (". . .", ". . .", "1 . 1"),
+        )
+    ):
+        page = told_page(
+            "                0 1 2",
+            f"    0    140000 {cells[0]}",
+            f"    1    0    7 {cells[1]}",
+            f"    2    2 1234 {cells[2]}",
+        )
+        assert pages.lent(three.text(), table, node, bytes(320)) == ([0, 0], page)
+    wide = Picture(1, [0], [65_535], [(0, 0)], [(ATOM, 0, 0)] * 32)
+    page = told_page(
+        "                0 1 2 3 4 5 6 7 8 91011121314151617181920212223242526272829"
+        "3031",
+        "    0    065535" + " 0 1 . ." * 8,
+    )
+    assert pages.lent(wide.text(), bytes([0, 1, 2, 2] * 8), 0, page) == ([0, 0], page)
+    text = three.text()
+    for node, room, cells, number in (
+        (2, 320, table, 0),
+        (2, 319, table, 24),
+        (3, 319, table, 11),
+        (255, 320, table, 11),
+        (3, 319, table[:-1] + b"\3", 10),
+        (3, 319, table[1:], 9),
+    ):
+        assert checker.page(text, cells, node, room) == ([number, 0], cells)
+    assert checker.page(b"", table, 3, 0) == ([1, 1], table)
+
+
+def read_back(page: bytes, formulas: int) -> tuple[list[list[int]], bytes]:
+    """What a page of so many subformulas says: state, owner and label of each
+    state, and the cells."""
+    heading, *lines = page.split(b"\n")[:-1]
+    assert all(len(line) == 79 for line in [heading, *lines])
+    end = 15 + 2 * formulas
+    ends = range(17, end + 2, 2)
+    assert [int(heading[at - 2 : at]) for at in ends] == list(range(formulas))
+    assert not any(line[end:].strip(b" ") for line in [heading, *lines])
+    assert heading[:15].strip(b" ") == b""
+    assert all(line[at - 2] == 32 for line in lines for at in ends)
+    numbers = [checker.fields(line[:15] + b"\n", 3) for line in lines]
+    marks = [line[at - 1 : at] for line in lines for at in ends]
+    return numbers, bytes(b"01.".index(mark) for mark in marks)
+
+
+def check_page(rng: random.Random, text: bytes) -> None:
+    """Pages say states, owners, labels and the node's cells, all of them and
+    nothing else; the call leaves what it should."""
+    job = checker.parse(text)
+    table = rng.choice(WILD)(rng, job)
+    other = bytearray(table)
+    for cell in rng.choices(inside(job), k=rng.randrange(3)):
+        other[cell] = rng.randrange(3)
+    read = b""
+    for node in range(job.sizes.nodes):
+        page = pages.page(job, table, node)
+        numbers, cells = read_back(page, job.sizes.formulas)
+        states = range(job.sizes.states)
+        assert numbers == [[s, job.owner[s], job.label[s]] for s in states]
+        read += cells
+        own = slice(job.cell(node, 0, 0), job.cell(node + 1, 0, 0))
+        equal = page == pages.page(job, bytes(other), node)
+        assert equal == (table[own] == other[own])
+        buffer = rng.randbytes(some_room(rng, job))
+        answer, after = pages.lent(text, table, node, buffer)
+        enough = page_room(job.sizes.states)
+        assert answer == ([0, 0] if len(buffer) >= enough else [24, 0])
+        assert after == (buffer if answer[0] else page + buffer[enough:])
+        for wrong in (job.sizes.nodes, checker.NO_NODE):
+            assert pages.lent(text, table, wrong, buffer) == ([11, 0], buffer)
+    assert read == table
+
+
+def check_pages_printed() -> None:
+    """What the program prints: by hand for job V, and refusals."""
+    text = JOB_V.text()
+    told = told_page(
+        "                0 1 2", "    0    0    1 1 0 0", "    1    1    1 1 0 0"
+    )
+    for arguments in ((b"0",), (b"1",), (b"1", b"x"), (b"0", b"")):
+        assert pages.printed(text, *arguments) == told
+    for arguments in ((), (b"",), (b"2",), (b"9",), (b"00",), (b"x", b"0")):
+        assert pages.printed(text, *arguments) == b"   11    0\n"
+        assert pages.printed(text[:-1], *arguments) == b"    3    1\n"
+    for name, job, numbers in printed():
+        if numbers[0] != 0:
+            assert pages.printed(job, b"0") == written_line(numbers[:2]), name
+
+
 def self_test(seed: int, count: int) -> None:
     """All of the above."""
     rng = random.Random(seed)
@@ -529,6 +644,8 @@ def self_test(seed: int, count: int) -> None:
     check_printed()
     check_ruled_out()
     check_all_along()
+    check_pages_told()
+    check_pages_printed()
     for pictured in each_kind():
         check_truth(pictured)
     for i in range(count):
@@ -536,6 +653,7 @@ def self_test(seed: int, count: int) -> None:
         check_lines(pictured)
         check_demand_3(rng, pictured, tally)
         check_wild(rng, pictured.text(), tally)
+        check_page(rng, pictured.text())
         job = checker.parse(pictured.text())
         check_sets(rng, job)
         if i % 10 == 0:

@@ -152,8 +152,10 @@ NUMBERS = {
     "look": 3,
     "close": 0,
     "finish": 0,
+    "page": 2,
 }
-"""The calls on a table, and how many numbers each takes."""
+"""The calls on a table, and how many numbers each takes; page a node, and how
+many bytes the buffer has that is lent to it."""
 
 KINDS_TOLD = {
     "offer": checker.TEMPORAL,
@@ -190,6 +192,20 @@ def make(name: str, text: bytes, table: bytes, numbers: tuple[int, ...]) -> Call
     return Call(name, text, numbers, answer, after)
 
 
+def page_room(states: int) -> int:
+    """The bytes that a page takes."""
+    return checker.PAGE_LINE * (states + 1)
+
+
+def some_room(rng: random.Random, job: Job) -> int:
+    """The bytes of a buffer for a page: mostly enough, often just so."""
+    enough = page_room(job.sizes.states)
+    if rng.randrange(4) == 0:
+        line = checker.PAGE_LINE
+        return rng.choice([0, 1, enough - line, enough - 1, rng.randrange(enough)])
+    return enough + rng.choice([0, 0, 1, rng.randrange(200)])
+
+
 def any_numbers(
     rng: random.Random, job: Job, name: str, fit: float = 0.9
 ) -> tuple[int, ...]:
@@ -206,6 +222,8 @@ def any_numbers(
         formula = rng.choice(job.temporal())
     if name == "step":
         return (node,)
+    if name == "page":
+        return (node, some_room(rng, job))
     if name == "offer":
         return (state, formula)
     borders = [(n, s) for n, b in enumerate(job.border) for s in b]
@@ -234,7 +252,7 @@ def calls(
     while made < count:
         name = rng.choice(
             ["step"] * 5 + ["offer"] * 5 + ["accept"] * 5 + ["look", "close", "close"]
-            + (["finish"] if rng.randrange(8) == 0 else [])
+            + ["page"] + (["finish"] if rng.randrange(8) == 0 else [])
         )  # fmt: skip
         numbers = any_numbers(rng, job, name)
         passed = text
@@ -265,7 +283,8 @@ def any_calls(
     for _ in range(count):
         name = rng.choice(
             ["step"] * 6 + ["offer"] * 3 + ["accept"] * 5 + ["look"] * 3
-            + ["close"] * 3 + ["finish"] * 2 + ["fresh"] * (rng.randrange(6) == 0)
+            + ["close"] * 3 + ["finish"] * 2 + ["page"] * 2
+            + ["fresh"] * (rng.randrange(6) == 0)
         )  # fmt: skip
         one = make(name, text, table, any_numbers(rng, job, name))
         table = one.table

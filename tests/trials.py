@@ -33,6 +33,7 @@ QUESTIONS = {
     "look": [*range(1, 13), 18],
     "close": [*range(1, 11), 19, 20],
     "finish": [*range(1, 11)],
+    "page": [*range(1, 12), 24],
 }
 """The questions that each call puts, in order."""
 
@@ -229,7 +230,7 @@ def numbers_trial(rng: random.Random) -> Trial:
     job = small(rng)
     text = job.text()
     parsed = checker.parse(text)
-    names = rng.choices(["step", "offer", "accept", "accept", "look"], k=8)
+    names = rng.choices(["step", "offer", "accept", "accept", "look", "page"], k=8)
     calls = [(name, tables.any_numbers(rng, parsed, name, 0.7)) for name in names]
     table = tables.good_table(rng, text)
     return Trial(text, table, calls, some_lines(rng, job), "numbers")
