@@ -1,5 +1,5 @@
-"""The programs `verdict` and `rule` and the library's `selahmur_read`, each beside
-a plain, unverified C program.
+"""The programs `verdict` and `rule` and the library's `selahmur_read` and
+`selahmur_page`, each beside a plain, unverified C program.
 
     run.py [PROGRAM ...] [--runs N] [--quick]
 
@@ -13,9 +13,10 @@ as large.  For rule text, instructions are those above what an empty line takes,
 since starting the process takes more than reading most texts; the last column
 has those of `rule` for a byte.
 
-For reading alone, the library `libselahmur.a` is the PROGRAM.  A row has what one
-call of `selahmur_read` takes, beside the reader of the plain program: the cost of
-many readings in one process, above that of one, for each of them.
+For reading and pages alone, the library `libselahmur.a` is the PROGRAM.  A row has
+what one call of `selahmur_read` takes, beside the reader of the plain program, or
+of `selahmur_page` on a fresh table, beside a plain one above that reader: the cost
+of many calls in one process, above that of one, for each of them.
 
 A PROGRAM is told by the name of its file; without any, all of target run: both of
 target/bin, and what `rt staticlib selahmur` writes.
@@ -101,6 +102,16 @@ def rules() -> Iterator[tuple[str, bytes]]:
     yield "514 bytes of nonsense", random.Random(1).randbytes(514)
 
 
+def sized() -> Iterator[tuple[str, bytes]]:
+    """Jobs of full size, of a middle one, and an example."""
+    rng = random.Random(1)
+    yield "full size", generate.full(rng).text()
+    middle = generate.picture(rng, 64, 32, 8, exact=True)
+    edges = generate.scattered(rng, 64, 512)
+    yield "64 states, 512 edges", replace(middle, edges=edges).text()
+    yield "examples/menu.job", (ROOT / "examples/menu.job").read_bytes()
+
+
 def readings() -> Iterator[tuple[str, bytes]]:
     """Jobs that are accepted, then those of full size that are refused: late,
     early, and where no line by itself is wrong."""
@@ -109,15 +120,11 @@ def readings() -> Iterator[tuple[str, bytes]]:
     text, sizes = job.text(), checker.Sizes(*job.lines()[0])
     first_edge = 2 + sizes.states
     last_edge, last = first_edge + sizes.edges - 1, len(job.lines())
-    middle = generate.picture(rng, 64, 32, 8, exact=True)
 
     def put(at: int, n: int, new: bytes) -> bytes:
         return damaged.with_field(text, sizes, at, n, new)
 
-    yield "full size", text
-    edges = generate.scattered(rng, 64, 512)
-    yield "64 states, 512 edges", replace(middle, edges=edges).text()
-    yield "examples/menu.job", (ROOT / "examples/menu.job").read_bytes()
+    yield from sized()
     yield "last edge line malformed", put(last_edge, 1, b"    -")
     yield "last line malformed", put(last, 2, b"    -")
     yield "last edge to no state", put(last_edge, 1, b"  256")
@@ -327,58 +334,82 @@ class Rules(Texts):
         return above(self.total(text), self.start)
 
 
-class Reading(Texts):
-    """The library's `selahmur_read`."""
+class Calls(Texts):
+    """A call of the library, many times in one process."""
 
     program = "target/staticlib/libselahmur.a"
-    source = "reading.c"
-    columns = ["reading", "bytes", "refusal", "line"]
+    function: str
     clock = "µs", 1e6
-    timed_bytes = 20_000_000  # enough readings that starting a process is no matter
-    counted_readings = 10
+    timed_bytes = 20_000_000  # enough calls that starting a process is no matter
+    counted_calls = 10
 
     def made(self, program: str, folder: str) -> list[str]:
-        """The plain reader and the library's, each below the same driver."""
+        """The plain call and the library's, each below the same driver."""
         plain = compiled(f"{folder}/plain", self.source, "-DPLAIN")
-        return [plain, compiled(f"{folder}/selahmur_read", self.source, program)]
+        return [plain, compiled(f"{folder}/{self.function}", self.source, program)]
+
+    def timed(self, text: bytes) -> tuple[set[bytes], list[float]]:
+        """The time of one call, without the start of the process."""
+        calls = self.timed_bytes // len(text)
+        printed, once = self.best(text, "1")
+        again, more = self.best(text, str(1 + calls))
+        return printed | again, [cost / calls for cost in above(more, once)]
+
+    def counted(self, text: bytes) -> list[float]:
+        """The instructions of one call."""
+        calls = self.counted_calls
+        once, more = self.total(text, "1"), self.total(text, str(1 + calls))
+        return [cost / calls for cost in above(more, once)]
+
+
+class Reading(Calls):
+    """The library's `selahmur_read`."""
+
+    source = "reading.c"
+    function = "selahmur_read"
+    columns = ["reading", "bytes", "refusal", "line"]
 
     def texts(self) -> Iterator[tuple[str, bytes]]:
         return readings()
 
-    def timed(self, text: bytes) -> tuple[set[bytes], list[float]]:
-        """The time of one reading, without the start of the process."""
-        readings = self.timed_bytes // len(text)
-        printed, once = self.best(text, "1")
-        again, more = self.best(text, str(1 + readings))
-        return printed | again, [cost / readings for cost in above(more, once)]
 
-    def counted(self, text: bytes) -> list[float]:
-        """The instructions of one reading."""
-        readings = self.counted_readings
-        once, more = self.total(text, "1"), self.total(text, str(1 + readings))
-        return [cost / readings for cost in above(more, once)]
+class Paging(Calls):
+    """The library's `selahmur_page`, on a fresh table."""
+
+    source = "paging.c"
+    function = "selahmur_page"
+    columns = ["page", "bytes", "refusal", "line"]
+    timed_bytes = 5_000_000
+
+    def texts(self) -> Iterator[tuple[str, bytes]]:
+        return sized()
 
 
-TABLES = {pathlib.Path(table.program).name: table for table in (Jobs, Rules, Reading)}
-"""By the program's name."""
+TABLES = (Jobs, Rules, Reading, Paging)
+
+
+def measured(program: str) -> list[type[Table]]:
+    """The tables of a program, by its name."""
+    name = pathlib.Path(program).name
+    return [table for table in TABLES if pathlib.Path(table.program).name == name]
 
 
 def main() -> int:
     """The program."""
     options = argparse.ArgumentParser(description=__doc__)
-    here = [str(ROOT / table.program) for table in TABLES.values()]
+    here = list(dict.fromkeys(str(ROOT / table.program) for table in TABLES))
     options.add_argument("programs", nargs="*", default=here)
     options.add_argument("--runs", type=int, default=5)
     options.add_argument("--quick", action="store_true")
     chosen = options.parse_args()
     for program in chosen.programs:
-        name = pathlib.Path(program).name
-        if name not in TABLES:
-            options.error(f"{program} is none of {', '.join(TABLES)}")
-        with tempfile.TemporaryDirectory() as folder:
-            if not TABLES[name](program, folder, chosen.runs, chosen.quick).run():
-                return 1
-        print()
+        if not measured(program):
+            options.error(f"{program} is none of {', '.join(map(str, here))}")
+        for table in measured(program):
+            with tempfile.TemporaryDirectory() as folder:
+                if not table(program, folder, chosen.runs, chosen.quick).run():
+                    return 1
+            print()
     return 0
 
 

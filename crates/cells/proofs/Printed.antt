@@ -1,5 +1,5 @@
--- C1 to C10, the cases that tell what is ruled out, the one that looks without naming a node and those of rules that hold all along follow
--- from the definitions: both sides are computed. Assumes nothing.
+-- C1 to C10, the cases that tell what is ruled out, the one that looks without naming a node, those of rules that hold all along and the answers of
+-- page follow from the definitions: both sides are computed. Assumes nothing.
 use mathlib.Core.Path.{_≡_, refl}
 use mathlib.Core.List.{map}
 use mathlib.Core.Option.{Option·elim}
@@ -26,6 +26,7 @@ use Rattle.cells.specs.Cases.{verdictCalls, bytes, answers, tableAfter, 
 use Rattle.cells.specs.RuledOut.{ruledOut}
 use Rattle.cells.specs.LookWithoutNode.{lookWithoutNode}
 use Rattle.cells.specs.AllAlong.{ringJob, impliesJob, lineJob, lineTable, allAlong, couldJoinBoth}
+use Rattle.cells.specs.PageAnswers.{pageAnswers}
 
 unfoldable pub printed : map computed cases ≡ cases
 unfolding first all any count from tab flatten every some member pass passes least greatest digits columns field wellFormed value numberAt formed states edges subformulas nodes lengthOf stateAt edgeAt subformulaAt ownerField job-owner labelField sourceField targetField kindField leftField calls-left rightField lines fieldsOf lineAt atomic unary binary parsed isFormula formula ofCall allYes refusal Option·elim answered afterwards ofLineOne ofLines firstLine ranges textLength lineFields stateLines edgeLines edgesOut formulaLines headQuestions lineQuestions textQuestions within inRanges formedLine stateOk less ascends edgeOk hasEdgeOut formulaOk numbers readAnswer readTold lineOf atom edge dual over size subformulaCount subformula decode owns inFragment edgeOut border inner tableLength index nodeOf stateOf subformulaOf cell ownerCell isEmpty inside cellsRight freshTable fillAt fill filled emptyCells joins smallest stays largest bySets opposite both next known column stepColumn stepUpTo stepTable isTemporal acceptTable copyTable stepsDone copiesDone settled open? smallestOpen someOpen closeTable stepsUpTo exchange closing round roundsFrom finish finish-verdict verdictCalls tableSize tableCells nodeBelow nodeOr255 numbersBelow temporalNamed ownerFilled truthValue stateAtBorder cellAgrees stateInFragment tableSettled someOwnerEmpty pageFits nodeRead ownQuestions questions width told answer after bytes answers tableAfter jobV job2 job3 job4 job6 job10 cases zeros computedFrom computed
@@ -47,3 +48,7 @@ all-along = refl
 pub could-join-both : computedFrom lineTable couldJoinBoth ≡ couldJoinBoth
 unfolding printed lineJob lineTable couldJoinBoth
 could-join-both = refl
+
+pub page-answers : computed pageAnswers ≡ pageAnswers
+unfolding printed pageAnswers
+page-answers = refl

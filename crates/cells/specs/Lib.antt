@@ -12,3 +12,4 @@ pub mod Cases
 pub mod RuledOut
 pub mod LookWithoutNode
 pub mod AllAlong
+pub mod PageAnswers

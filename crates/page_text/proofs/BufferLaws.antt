@@ -24,12 +24,12 @@ module _ (x : Text) (t : Table) (n : ℕ) (b : List ℕ) where
   pub buffer-stays : (number line others : ℕ) → refused number line others ≡ answer call x t → pageBuffer x t n b ≡ b
   unfolding answer pageBuffer
   buffer-stays number line others e =
-      refused-stays (questions call x t) b (overwritten b (page (decode x) t n)) (width call) (told call (decode x) t) number line others e
+      refused-stays (questions call x t) b _ (width call) (told call (decode x) t) number line others e
 
   pub buffer-accepted : (own : List ℕ) → accepted own ≡ answer call x t → pageBuffer x t n b ≡ overwritten b (page (decode x) t n)
   unfolding answer pageBuffer
   buffer-accepted own e =
-      afterwards-none (questions call x t) b (overwritten b (page (decode x) t n))
+      afterwards-none (questions call x t) b _
       (accepted-none (questions call x t) (width call) (told call (decode x) t) own e)
 
   -- The page of the text's job, written over the buffer.

@@ -166,15 +166,18 @@ unfolding every decimal
 decimal-visible m =
     simp (digit-visible m 10000, digit-visible m 1000, digit-visible m 100, digit-visible m 10, digit-visible m 1)
 
+front-visible : (a b c : ℕ) → every visible (decimal a ++ (decimal b ++ decimal c)) ≡ true
+front-visible a b c =
+    every-append visible (decimal a) (decimal b ++ decimal c) (decimal-visible a)
+    (every-append visible (decimal b) (decimal c) (decimal-visible b) (decimal-visible c))
+
 columns-visible : (J : Job) (t : Table) (n i : ℕ) → every visible (columnsOf J t n i) ≡ true
 unfolding columnsOf heading rowFront rowCells twoColumns every
 columns-visible J t n zero =
     every-append visible (replicate 15 32) (flatten (tab twoColumns (subformulaCount J))) (spaces-visible 15)
     (every-chunk visible twoColumns (λ k. simp (digit-visible k 10, digit-visible k 1)) (subformulaCount J))
 columns-visible J t n (suc s) =
-    every-append visible (rowFront J s) (rowCells J t n s)
-    (every-append visible (decimal s) (decimal (owner J s) ++ decimal (label J s)) (decimal-visible s)
-    (every-append visible (decimal (owner J s)) (decimal (label J s)) (decimal-visible (owner J s)) (decimal-visible (label J s))))
+    every-append visible (rowFront J s) (rowCells J t n s) (front-visible s _ _)
     (every-chunk visible (λ k. 32 ∷ cellMark (cell J t n s k) ∷ []) (λ k. simp (mark-visible (cell J t n s k))) (subformulaCount J))
 
 -- The 79 columns of line i, with the spaces that fill it.

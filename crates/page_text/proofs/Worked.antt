@@ -8,8 +8,7 @@ use Rattle.text.specs.Field.{Text}
 use Rattle.text.specs.Decimal.{digitColumn, decimal}
 use Rattle.job.specs.Written.{label}
 use Rattle.cells.specs.Calls.{Call, fresh, step, finish}
-use Rattle.cells.specs.Calls as call
-use Rattle.cells.specs.Cases.{Case, bytes, tableAfter, zeros, computed, jobV}
+use Rattle.cells.specs.Cases.{bytes, tableAfter, zeros, jobV}
 use Rattle.cells.proofs.Printed.{printed}
 use Rattle.page_text.specs.Page.{twoColumns, heading, cellMark, rowFront, rowCells, columnsOf, filledLine, pageLines, page}
 use Rattle.page_text.specs.PageCall.{overwritten, pageBuffer}
@@ -68,17 +67,3 @@ short-page = refl
 no-node : left jobV (fresh ∷ []) 2 240 ≡ replicate 240 7
 unfolding left
 no-node = refl
-
--- The answers: 240 bytes are enough for two states and more are no harm; 11 is asked before 24, and of 255 too.
-answers : Case
-answers =
-    record {
-      job = jobV;
-      calls = fresh ∷ call.page 0 240 ∷ call.page 1 500 ∷ call.page 0 239 ∷ call.page 2 0 ∷ call.page 255 240 ∷ [];
-      told = (0 ∷ 0 ∷ []) ∷ (0 ∷ 0 ∷ []) ∷ (0 ∷ 0 ∷ []) ∷ (24 ∷ 0 ∷ []) ∷ (11 ∷ 0 ∷ []) ∷ (11 ∷ 0 ∷ []) ∷ [];
-      cells = replicate 12 2;
-    }
-
-page-answers : computed answers ≡ answers
-unfolding printed answers
-page-answers = refl
