@@ -4,30 +4,34 @@
  *     rt staticlib selahmur
  *     cc -std=c99 -Wall -Wextra -Iinclude examples/service.c target/staticlib/libselahmur.a -o target/service
  *     target/service examples/menu.job
+ *     target/service examples/menu.job 1
  *
  * Every worker steps. Then each owner's new results are offered and delivered to the workers that have the state at their border. When a
  * turn of this fills nothing the table is settled, and a close fills the smallest open subformula, an until with false, EG or AG with true; when
  * nothing is open either, the table is full and finish only reads the verdict. Here one process plays all workers; in a service a worker is a
  * thread or a machine, and the messages travel as slowly as they like.
  *
- * Prints one line: the verdict and what was done, or the refusal with the line that it is about. Exit status 0 for yes, 1 for no, 2 otherwise.
+ * Prints one line: the verdict and what was done, or the refusal with the line that it is about. With a node's number behind the job, its page
+ * follows the verdict: the node's part of the full table, as lines to be printed, or the refusal where there is no such node. Exit status 0 for
+ * yes, 1 for no, 2 otherwise.
  */
 #include <stdio.h>
 #include <stdlib.h>
 
 #include "selahmur.h"
 
-enum { LONGEST = 25877, MOST_CELLS = 65536, MOST_MESSAGES = 256 * 32 };
+enum { LONGEST = 25877, MOST_CELLS = 65536, MOST_MESSAGES = 256 * 32, MOST_PAGE_LINES = 257 };
 
 static uint8_t text[LONGEST + 1];
 static size_t length;
 static uint8_t table[MOST_CELLS];
 static size_t cells;
+static uint8_t page[SELAHMUR_PAGE_LINE * MOST_PAGE_LINES]; /* long enough for any job's */
 static size_t answer[SELAHMUR_MOST_NUMBERS];
 
 static const size_t room = SELAHMUR_MOST_NUMBERS;
 
-/* Ends the program where a call is refused that must not be: by reading alone, for a job that is not well-formed. */
+/* Ends the program where a call is refused that must not be: read, for a job that is not well-formed, or page, for a node that the job has not. */
 static void accepted(const char *call)
 {
     size_t number = answer[0], line = answer[1];
@@ -48,15 +52,33 @@ static void accepted(const char *call)
     exit(2);
 }
 
+/* The node that is typed, or none where it is not a number. */
+static size_t typed(const char *word)
+{
+    char *end;
+    size_t number = strtoul(word, &end, 10);
+
+    return end != word && *end == 0 ? number : SELAHMUR_NO_NODE;
+}
+
+/* Prints the page of a node: one line for each state behind the heading. */
+static void print_page(size_t node, size_t states)
+{
+    selahmur_page(text, length, table, cells, node, page, sizeof page, answer, room);
+    accepted("page");
+    fwrite(page, SELAHMUR_PAGE_LINE, states + 1, stdout);
+}
+
 int main(int argc, char **argv)
 {
     static uint8_t told[MOST_MESSAGES]; /* the messages that were sent already */
     size_t states, subformulas, nodes;
     size_t steps = 0, messages = 0, closes = 0, filled = 0, turn;
-    FILE *file = argc == 2 ? fopen(argv[1], "rb") : NULL;
+    size_t verdict;
+    FILE *file = argc == 2 || argc == 3 ? fopen(argv[1], "rb") : NULL;
 
     if (file == NULL) {
-        fprintf(stderr, "usage: service JOB\n");
+        fprintf(stderr, "usage: service JOB [NODE]\n");
         return 2;
     }
     length = fread(text, 1, sizeof text, file);
@@ -112,6 +134,9 @@ int main(int argc, char **argv)
 
     selahmur_finish(text, length, table, cells, answer, room);
     accepted("finish");
-    printf("%s: %zu cells, %zu steps, %zu messages, %zu closes\n", answer[2] ? "yes" : "no", filled, steps, messages, closes);
-    return answer[2] ? 0 : 1;
+    verdict = answer[2];
+    printf("%s: %zu cells, %zu steps, %zu messages, %zu closes\n", verdict ? "yes" : "no", filled, steps, messages, closes);
+    if (argc == 3)
+        print_page(typed(argv[2]), states);
+    return verdict ? 0 : 1;
 }

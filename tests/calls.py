@@ -25,7 +25,8 @@ It counts too, and fails where a call is never accepted, where a number that a
 call can refuse with never comes, where no message or no close is ever about a kind
 that it can be about, or where some mark is on no page.  The worked examples are
 compiled with the header: examples/service.c has to print what the model says of
-the same calls, and examples/rule.c the CTL truth of a rule that is typed.
+the same calls, with the page of any node, and examples/rule.c the CTL truth of a
+rule that is typed.
 """
 
 from __future__ import annotations
@@ -293,18 +294,18 @@ class Library:
 
     def call(self, case: Case) -> tuple[list[int], bytes, bytes, list[str]]:
         """Make the call: the array, the table, the buffer, and what else is wrong."""
-        lent = [self.text.lend(case.text), len(case.text)]
-        if case.name not in TEXT_ALONE:
-            lent += [self.table.lend(case.table), len(case.table)]
-        else:
-            self.table.lend(case.table)
-        more = [self.buffer.lend(case.buffer), len(case.buffer)]
+        passed = [self.text.lend(case.text), len(case.text)]
+        # All are lent, so that a call that is not passed one has to leave it.
+        table = [self.table.lend(case.table), len(case.table)]
+        buffer = [self.buffer.lend(case.buffer), len(case.buffer)]
         array = struct.pack(f"={case.room}Q", *unwritten(case.room))
-        answer = [self.answer.lend(array), case.room]
+        if case.name not in TEXT_ALONE:
+            passed += table
+        passed += case.numbers
         if case.name == "page":
-            self.functions[case.name](*lent, *case.numbers, *more, *answer)
-        else:
-            self.functions[case.name](*lent, *case.numbers, *answer)
+            passed += buffer
+        passed += [self.answer.lend(array), case.room]
+        self.functions[case.name](*passed)
         text, text_kept = self.text.back()
         table, table_kept = self.table.back()
         buffer, buffer_kept = self.buffer.back()
@@ -913,14 +914,14 @@ def example_wrong(
         show_text(text)
 
 
-def service_says(text: bytes) -> tuple[str, int]:
-    """What examples/service.c must print, and its exit status: the same calls
-    of the model."""
+def service_plays(text: bytes) -> tuple[str, int, bytes]:
+    """The line that examples/service.c must print, its exit status, and the table
+    afterwards: the same calls of the model."""
     number, at, states, _, formulas, nodes = checker.read(text)
     if number != 0:
         part = checker.line(text, at).decode("latin-1")
         shown = f": '{part}'" if part else ""
-        return f"read is refused: {number}, line {at}{shown}\n", 2
+        return f"read is refused: {number}, line {at}{shown}\n", 2, b""
     _, table = checker.fresh(text, bytes(nodes * states * formulas))
     told: set[tuple[int, int]] = set()
     steps = messages = closes = filled = 0
@@ -947,15 +948,30 @@ def service_says(text: bytes) -> tuple[str, int]:
         filled += turn
         if turn == 0:
             break
-    verdict = checker.finish(text, table)[0][2]
+    (_, _, verdict, *_), table = checker.finish(text, table)
     done = f"{filled} cells, {steps} steps, {messages} messages, {closes} closes"
-    return f"{'yes' if verdict else 'no'}: {done}\n", 0 if verdict else 1
+    return f"{'yes' if verdict else 'no'}: {done}\n", 0 if verdict else 1, table
+
+
+def service_says(text: bytes, node: int | None = None) -> tuple[str, int]:
+    """All that examples/service.c must print, and its exit status: the page of a
+    node, too, where one is named and the job is accepted."""
+    said, status, table = service_plays(text)
+    if node is None or not table:
+        return said, status
+    room = tables.page_room(checker.parse(text).sizes.states)
+    (number, _), page = pages.lent(text, table, node, bytes(room))
+    if number != 0:
+        return f"{said}page is refused: {number}\n", 2
+    return said + page.decode(), status
 
 
 def service_wrong(
     rng: random.Random, archive: str, where: pathlib.Path
 ) -> Iterator[str]:
-    """Compile examples/service.c and run it on jobs, damaged ones among them."""
+    """Compile examples/service.c and run it on jobs, damaged ones among them,
+    without a node and with each of the first, up to one that the examples have
+    not."""
     program = example("service", archive, where)
     texts = [path.read_bytes() for path in sorted(EXAMPLES.glob("*.job"))]
     for _ in range(6):
@@ -963,6 +979,12 @@ def service_wrong(
         texts += [job.text(), generate.picture(rng).text(), damaged.spoilt(rng, job)]
     for text in texts:
         yield from example_wrong(program, text, [], service_says(text))
+        for node in range(4):
+            told = service_says(text, node)
+            yield from example_wrong(program, text, [b"%d" % node], told)
+    told = service_says(texts[0], checker.NO_NODE)
+    for nameless in (b"x", b"", b"0x", b"-1", b"255"):
+        yield from example_wrong(program, texts[0], [nameless], told)
 
 
 def yes_or_no(verdict: bool) -> tuple[str, int]:

@@ -11,7 +11,8 @@ and for pages, as `compare_pages.py` has it, with PAGES draws besides.
 CLONE is changed: give a clone of the repository, not the repository.
 
 The cases must show every answer of every call and notice every mutant of
-`mutants.py`, but for those of truth; where they do not, the exit status is 1.
+`mutants.py`, but for those of truth and of the program `page`; where they do not,
+the exit status is 1.
 """
 
 from __future__ import annotations
@@ -370,12 +371,12 @@ def describe(drawn: list[Trial]) -> None:
         print(f"{name}: {answers[name]}")
 
 
-def tell(missing: list[str], noticed: int, given: int) -> None:
+def tell(name: str, missing: list[str], noticed: int, given: int) -> None:
     """What the cases show."""
     if missing:
-        print("not shown by any case:", missing)
+        print(f"{name}: not shown by any case:", missing)
     else:
-        print(f"all {noticed} mutants noticed, each of {given} answers given")
+        print(f"{name}: all {noticed} mutants noticed, each of {given} answers given")
 
 
 def main() -> int:
@@ -390,17 +391,20 @@ def main() -> int:
     options.add_argument("--plant", action="store_true", help="make three cases wrong")
     chosen = options.parse_args()
     jobs = trials.trials(chosen.seed, chosen.count)
-    describe(jobs)
-    missing = [trials.missing(jobs)]
-    tell(missing[0], len(mutants.MODELS), len(trials.WANTED))
     texts = compare_rules.cases(chosen.seed, chosen.texts)
-    print("rule:", compare_rules.given(texts))
-    missing.append(compare_rules.missing(texts))
-    tell(missing[1], len(mutants.RULE_MODELS), len(compare_rules.NUMBERS))
     papers = compare_pages.cases(chosen.seed, chosen.pages)
+    describe(jobs)
+    print("rule:", compare_rules.given(texts))
     print("pages:", compare_pages.given(papers))
-    missing.append(compare_pages.missing(papers))
-    tell(missing[2], len(mutants.PAGE_MODELS), len(compare_pages.NUMBERS))
+    unshown = []
+    for name, part, cases, models, answers in (
+        ("calls", trials, jobs, mutants.MODELS, trials.WANTED),
+        ("rule", compare_rules, texts, mutants.RULE_MODELS, compare_rules.NUMBERS),
+        ("pages", compare_pages, papers, mutants.PAGE_MODELS, compare_pages.NUMBERS),
+    ):
+        missing = part.missing(cases)
+        tell(name, missing, len(models), len(answers))
+        unshown += missing
     if chosen.plant:
         for cases in (jobs, texts, papers):
             plant(cases, chosen.seed)
@@ -408,7 +412,7 @@ def main() -> int:
     found = compare_pages.PageText(chosen.clone).compare(papers, chosen.batch)
     found += Jobs(chosen.clone).compare(jobs, chosen.batch)
     found += compare_rules.RuleText(chosen.clone).compare(texts, chosen.batch)
-    return 1 if found or any(missing) else 0
+    return 1 if found or unshown else 0
 
 
 if __name__ == "__main__":

@@ -17,8 +17,8 @@ import page_cases
 import pages
 import tables
 import trials
-from prover import Crate, antt_numbers, antt_text
 from page_cases import PageCase
+from prover import Crate, antt_numbers, antt_text
 
 NUMBERS = (0, *trials.QUESTIONS["page"])
 """What the call can answer."""
@@ -64,16 +64,17 @@ def cases(seed: int, count: int) -> list[PageTrial]:
     return [PageTrial(case) for case in found]
 
 
-def given(trials: list[PageTrial]) -> dict[int, int]:
+def given(papers: list[PageTrial]) -> dict[int, int]:
     """How many of the cases are answered under each number."""
-    found = collections.Counter(trial.made()[0][0] for trial in trials)
+    found = collections.Counter(trial.made()[0][0] for trial in papers)
     return {number: found[number] for number in NUMBERS}
 
 
-def missing(trials: list[PageTrial]) -> list[str]:
-    """What the cases do not show: answers, and mutants unnoticed."""
-    answers = given(trials)
-    noticed = mutants.page_counts(trial.case for trial in trials)
+def missing(papers: list[PageTrial]) -> list[str]:
+    """What the cases do not show: answers, and mutants unnoticed, also those of
+    page's questions."""
+    answers = given(papers)
+    noticed = mutants.page_counts(trial.case for trial in papers)
     return [f"page {number}" for number in NUMBERS if answers[number] == 0] + [
         name for name in noticed if noticed[name] == 0
     ]

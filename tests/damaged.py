@@ -30,6 +30,10 @@ BAD_FIELDS = [
 ]  # fmt: skip
 """Fields that are not well-formed."""
 
+COMPUTED = 500
+"""Damaged texts of up to so many bytes are cases of compare.py: those with 30,000
+bytes more are dear to the prover, which goes over every byte."""
+
 LARGEST = checker.Sizes(256, 2048, 32, 8)
 """The numbers of line 1 at their greatest."""
 

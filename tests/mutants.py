@@ -1,4 +1,5 @@
-"""Would the cases of compare.py notice a wrong reading?
+"""Would the cases of compare.py, and those of page_outside.py, notice a wrong
+reading?
 
     mutants.py [--seed N] [--count N]
 
@@ -7,7 +8,10 @@ one thing otherwise, in one place of the source or in a few.  For each the cases
 answered again and those that change are counted; a mutant that changes none is a
 gap in the cases.  Without options the cases are the gate's.  A mutant of truth on
 the uncut structure changes no answer: it has to differ from what finish fills on
-jobs that are drawn besides.
+jobs that are drawn besides.  A mutant of the program `page` has to print otherwise
+for one of the gate's cases of page_outside.py, whatever the options.  The mutants of
+page's questions are counted with those of the calls; the cases of pages have to
+notice them, too.
 """
 
 from __future__ import annotations
@@ -26,6 +30,7 @@ import pages
 import rules
 
 if TYPE_CHECKING:
+    import outside
     import page_cases
     import trials
 
@@ -428,6 +433,46 @@ PAGE_MUTANTS: list[tuple[str, ...]] = [
 """Wrong readings of the page and of the buffer."""
 
 
+PROGRAM_MUTANTS: list[tuple[str, ...]] = [
+    # The node.
+    ("01 is node 1", 'rb"[0-9]", first', 'rb"0?[0-9]", first'),
+    ("+1 is node 1", 'rb"[0-9]", first', 'rb"[+]?[0-9]", first'),
+    ("spaces around the digit", 'rb"[0-9]", first', 'rb" *[0-9] *", first'),
+    ("byte 10 behind the digit", 're.fullmatch(rb"[0-9]", first)', 're.match(rb"[0-9]$", first)'),
+    ("256 cut to node 0", 'int(first) if re.fullmatch(rb"[0-9]", first)', 'int(first) % 256 if re.fullmatch(rb"[0-9]|[1-9][0-9]{1,19}", first)'),
+    ("a longer argument read by its first byte", 'first = arguments[0] if arguments else b""', 'first = arguments[0][:1] if arguments else b""'),
+    ("a longer argument read by its last byte", 'first = arguments[0] if arguments else b""', 'first = arguments[0][-1:] if arguments else b""'),
+    ("the last argument read", "first = arguments[0] if arguments", "first = arguments[-1] if arguments"),
+    ("all arguments read as one", "first = arguments[0] if arguments", 'first = b"".join(arguments) if arguments'),
+    ("further arguments not let by", "first = arguments[0] if arguments else", "first = arguments[0] if len(arguments) == 1 else"),
+    ("node 0 where no argument is", 'if arguments else b""', 'if arguments else b"0"'),
+    ("node 0 for an empty argument", "first = arguments[0] if", 'first = arguments[0] or b"0" if'),
+    ("node 0 for what names none", 'rb"[0-9]", first) else NO_NODE', 'rb"[0-9]", first) else 0'),
+    ("nodes from 1", "return int(first) if", "return (int(first) or 10) - 1 if"),
+    # The order.
+    ("the node asked before the text", "    if number == 0:\n        room",
+     "    if named(arguments) == NO_NODE:\n        return written_line((11, 0))\n    if number == 0:\n        room"),
+    ("nodes 8 and 9 asked before the text", "    if number == 0:\n        room",
+     "    if 8 <= named(arguments) < NO_NODE:\n        return written_line((11, 0))\n    if number == 0:\n        room"),
+    ("a text too long read without its end", "text = text[: LONGEST + 1]", "text = text[:LONGEST]"),
+    # The table.
+    ("the table fresh", "lent(text, finished(text),", "lent(text, bytes([EMPTY]) * checker.parse(text).size(),"),
+    ("the table after a step of each node", "        (number, line), lines = lent(text, finished(text),",
+     "        table = bytes([EMPTY]) * checker.parse(text).size()\n"
+     "        for node in range(checker.sizes(text).nodes):\n            table = checker.step(text, table, node)[1]\n"
+     "        (number, line), lines = lent(text, table,"),
+    # What is printed.
+    ("a refusal with one field", "else written_line((number, line))", "else written_line((number,))"),
+    ("a refusal with five fields", "else written_line((number, line))", "else written_line((number, line, 0, 0, 0))"),
+    ("a refusal without its line's number", "else written_line((number, line))", "else written_line((number, 0))"),
+    ("a refusal not told", "else written_line((number, line))", 'else b""'),
+    ("a line of zeros before the page", "return lines if number == 0", "return written_line((0, 0)) + lines if number == 0"),
+    ("the whole of the largest buffer printed", "PAGE_LINE * (states + 1)", "PAGE_LINE * 257"),
+    ("an empty line behind the page", "return lines if number == 0", 'return lines + b"\\n" if number == 0'),
+]  # fmt: skip
+"""Wrong readings of the program `page`: of its argument and of what it prints."""
+
+
 TRUTH_MUTANTS: list[tuple[str, ...]] = [
     ("truth: AX and EX exchanged", "elif kind == AX:\n            here", "elif kind == EX:\n            here",
      "elif kind == EX:\n            here = {s for s in every if not", "elif kind == AX:\n            here = {s for s in every if not"),
@@ -684,12 +729,19 @@ def set_modules() -> Iterator[tuple[str, types.ModuleType]]:
             yield f"{kinds}: {mutant[0]}", made
 
 
-def page_modules() -> Iterator[tuple[str, types.ModuleType]]:
-    """The mutants of the page, by name, and the page by those of its questions."""
-    yield from modules(pages, PAGE_MUTANTS).items()
+def asked_modules() -> Iterator[tuple[str, types.ModuleType]]:
+    """The page by the mutants of its questions, by name."""
     for name, asking in ASKING_MODELS.items():
         made = module(pages, name)
         made.checker = asking
+        yield name, made
+
+
+def program_modules() -> Iterator[tuple[str, types.ModuleType]]:
+    """The mutants of the program, by name.  None is of finish, which is dear: the
+    model's is kept, with the tables that it has made already."""
+    for name, made in modules(pages, PROGRAM_MUTANTS).items():
+        made.finished = pages.finished
         yield name, made
 
 
@@ -715,8 +767,11 @@ ASKING_MODELS = modules(checker, PAGE_QUESTION_MUTANTS)
 MODELS = SET_MODELS | modules(checker, MUTANTS) | READER_MODELS | ASKING_MODELS
 TRUTH_MODELS = modules(checker, TRUTH_MUTANTS)
 RULE_MODELS = modules(rules, RULE_MUTANTS)
-PAGE_MODELS = dict(page_modules())
-"""The mutants as models."""
+PAGE_MODELS = modules(pages, PAGE_MUTANTS)
+ASKED_MODELS = dict(asked_modules())
+PROGRAM_MODELS = dict(program_modules())
+"""The mutants as models.  Those of page's questions are among those of the calls;
+as models of the page they are ASKED_MODELS."""
 
 
 def noticed(trial: trials.Trial, names: Iterable[str]) -> list[str]:
@@ -767,10 +822,27 @@ def page_answer(model: types.ModuleType, case: page_cases.PageCase) -> object:
 
 
 def page_noticed(case: page_cases.PageCase) -> list[str]:
-    """The mutants that write another page than the model."""
+    """The mutants that write another page than the model, or answer otherwise."""
     right = page_answer(pages, case)
+    models = PAGE_MODELS | ASKED_MODELS
+    return [name for name, model in models.items() if page_answer(model, case) != right]
+
+
+def program_output(model: types.ModuleType, case: outside.Case) -> object:
+    """All that the program prints, as the model says."""
+    try:
+        return model.printed(case.text, *case.arguments)
+    except Exception as wrong:  # a mutant may run into a wall
+        return repr(wrong)
+
+
+def program_noticed(case: outside.Case) -> list[str]:
+    """The mutants that print otherwise than the model."""
+    right = program_output(pages, case)
     return [
-        name for name, model in PAGE_MODELS.items() if page_answer(model, case) != right
+        name
+        for name, model in PROGRAM_MODELS.items()
+        if program_output(model, case) != right
     ]
 
 
@@ -798,22 +870,39 @@ def rule_counts(cases: Iterable[tuple[bytes, bytes]]) -> dict[str, int]:
 
 
 def page_counts(cases: Iterable[page_cases.PageCase]) -> dict[str, int]:
-    """How many of the pages notice each mutant."""
-    return tally(PAGE_MODELS, map(page_noticed, cases))
+    """How many of the pages notice each mutant, those of page's questions too."""
+    return tally(PAGE_MODELS | ASKED_MODELS, map(page_noticed, cases))
 
 
-def show(found: dict[str, int], cases: int) -> int:
+def program_counts(cases: Iterable[outside.Case]) -> dict[str, int]:
+    """How many of the runs notice each mutant of the program."""
+    return tally(PROGRAM_MODELS, map(program_noticed, cases))
+
+
+def show(what: str, found: dict[str, int], cases: int) -> int:
     """Print how many cases notice each mutant; how many mutants none does."""
     for name, times in found.items():
         print(f"{times:5} {name}")
     unnoticed = sum(times == 0 for times in found.values())
-    print(f"{len(found)} mutants, {unnoticed} unnoticed by {cases} cases")
+    told = f"{len(found)} wrong readings of {what}"
+    print(f"{told}, {unnoticed} unnoticed by {cases} cases")
     return unnoticed
+
+
+def show_pages(cases: list[page_cases.PageCase]) -> int:
+    """The same of pages.  The mutants of page's questions are shown with the calls';
+    here only how many the pages leave unnoticed."""
+    found = page_counts(cases)
+    again = [found.pop(name) for name in ASKED_MODELS]
+    unnoticed = show("pages", found, len(cases))
+    print(f"(those of page's questions: {again.count(0)} unnoticed by these cases)")
+    return unnoticed + again.count(0)
 
 
 def main() -> int:
     """The program."""
     import page_cases
+    import page_outside
     import rule_texts
     import trials
 
@@ -823,13 +912,15 @@ def main() -> int:
     chosen = options.parse_args()
     drawn = trials.trials(chosen.seed, chosen.count)
     texts = list(rule_texts.chosen())
-    unnoticed = show(counts(drawn), len(drawn))
+    runs = list(page_outside.all_cases(page_outside.SEED, page_outside.COUNT))
+    unnoticed = show("the calls", counts(drawn), len(drawn))
     rng = random.Random(chosen.seed)
     jobs = [generate.picture(rng) for _ in range(chosen.count)]
     jobs += [generate.tangled(rng, 6, 8, 4) for _ in range(chosen.count)]
-    unnoticed += show(truth_counts(job.text() for job in jobs), len(jobs))
-    unnoticed += show(rule_counts(texts), len(texts))
-    unnoticed += show(page_counts(page_cases.chosen()), len(page_cases.chosen()))
+    unnoticed += show("truth", truth_counts(job.text() for job in jobs), len(jobs))
+    unnoticed += show("rule text", rule_counts(texts), len(texts))
+    unnoticed += show_pages(page_cases.chosen())
+    unnoticed += show("the program page", program_counts(runs), len(runs))
     return 1 if unnoticed else 0
 
 

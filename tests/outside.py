@@ -60,7 +60,7 @@ class Case:
 
     name: str
     text: bytes
-    told: bytes | None = None  # the line that the maker of the text expects
+    told: bytes | None = None  # all that the maker of the text expects to be printed
     structure: str = ""  # cases that share it are cuttings of one structure
     slowly: bool = False  # handed over in pieces
     arguments: tuple[bytes, ...] = ()
@@ -68,7 +68,7 @@ class Case:
 
 @dataclass
 class Difference:
-    """A case where something is wrong, with the lines of both."""
+    """A case where something is wrong, with what the model and the program print."""
 
     case: Case
     model: bytes

@@ -1,5 +1,5 @@
 """Cases of the page: a job, a table, a node and the buffer that is lent.  Those on
-which the definitions are computed, and drawn ones.
+which the definitions are computed, and drawn ones.  And pages told by hand.
 """
 
 from __future__ import annotations
@@ -24,6 +24,24 @@ class PageCase(NamedTuple):
     table: bytes
     node: int
     buffer: bytes
+
+
+# --------------------------------------------------------------------------
+# Pages told by hand
+# --------------------------------------------------------------------------
+
+
+def told_page(*lines: bytes) -> bytes:
+    """A page by its lines, without the spaces behind."""
+    return b"".join(line.ljust(79) + b"\n" for line in lines)
+
+
+PAGE_V = told_page(
+    b"                0 1 2",
+    b"    0    0    1 1 0 0",
+    b"    1    1    1 1 0 0",
+)
+"""Document 01's job V after finish, either node's."""
 
 
 # --------------------------------------------------------------------------
@@ -173,5 +191,5 @@ def drawn(rng: random.Random, count: int) -> Iterator[PageCase]:
         wrong = rng.choice([table, tables.bad_table(rng, parsed)])
         yield PageCase(text, wrong, node, rng.randbytes(room))
         spoilt = damaged.spoilt(rng, job)
-        if len(spoilt) <= 500:
+        if len(spoilt) <= damaged.COMPUTED:
             yield PageCase(spoilt, table, node, rng.randbytes(room))

@@ -4,9 +4,10 @@
 
 Runs the program on job texts, for every node of each job, and compares all that it
 prints with what the model of pages.py says.  Apart from the model, a page must have
-S + 1 lines of 79 columns and byte 10, and its `0` and `1` must be the CTL truth on
-the uncut structure.  A crash, a hang, any other output and more bytes read than it
-may are differences too.
+S + 1 lines of 79 columns and byte 10, with `.` at states outside the node's fragment
+and the CTL truth on the uncut structure at all others: finish leaves no cell of a
+fragment empty.  A crash, a hang, any other output and more bytes read than it may
+are differences too.
 
 Always run are the examples, the printed cases, the limits, labels of every width,
 every cutting of small structures, damaged texts and those too long under several
@@ -17,7 +18,6 @@ one of 1 to 8 or 11, or where `.`, `0` or `1` stands on no page.
 
 from __future__ import annotations
 
-import itertools
 import random
 import sys
 from dataclasses import replace
@@ -30,6 +30,7 @@ import generate
 import pages
 from checker import ATOM
 from outside import EXAMPLES, Case, Comparison, Run, options
+from page_cases import PAGE_V, told_page
 
 # --------------------------------------------------------------------------
 # The arguments
@@ -83,23 +84,10 @@ def some_arguments(rng: random.Random) -> tuple[bytes, ...]:
 # The cases
 # --------------------------------------------------------------------------
 
-PAGE_V = [
-    b"                0 1 2",
-    b"    0    0    1 1 0 0",
-    b"    1    1    1 1 0 0",
-]
-"""Document 01's job V on paper, either node's, worked out by hand: what is behind
-the last subformula is left out."""
-
-PAGE_ONE = [b"                0", b"    0    065535 1"]
+PAGE_ONE = told_page(b"                0", b"    0    065535 1")
+PAGE_OTHER = told_page(b"                0", b"    0    065535 .")
 """A state with all atoms, owned by the first of two nodes: its page, and that of
 the other."""
-PAGE_OTHER = [PAGE_ONE[0], b"    0    065535 ."]
-
-
-def told_page(lines: list[bytes]) -> bytes:
-    """The page of these lines."""
-    return b"".join(line.ljust(79) + b"\n" for line in lines)
 
 
 def told_line(number: int, line: int) -> bytes:
@@ -121,13 +109,13 @@ def named_cases() -> Iterator[Case]:
             yield of_node(f"{name}, node {node}", text, node, told)
     one = generate.Picture(2, [0], [65_535], [(0, 0)], [(ATOM, 15, 0)]).text()
     v = generate.JOB_V.text()
-    for text, node, lines in (
+    for text, node, told in (
         (v, 0, PAGE_V),
         (v, 1, PAGE_V),
         (one, 0, PAGE_ONE),
         (one, 1, PAGE_OTHER),
     ):
-        yield of_node(f"told, node {node}", text, node, told_page(lines))
+        yield of_node(f"told, node {node}", text, node, told)
 
 
 def wide_labels(rng: random.Random) -> generate.Picture:
@@ -230,22 +218,45 @@ def drawn_cases(rng: random.Random, count: int) -> Iterator[Case]:
         yield damage_case(rng, faults.some_faults(rng, job))
 
 
+SEED, COUNT = 1, 100
+"""The gate's cases."""
+
+
+def all_cases(seed: int, count: int) -> Iterator[Case]:
+    """Those that are always run, and so many draws."""
+    rng = random.Random(seed)
+    yield from named_cases()
+    yield from valid_cases(rng)
+    yield from argument_cases(rng)
+    yield from damaged_cases(rng)
+    yield from drawn_cases(rng, count)
+
+
 # --------------------------------------------------------------------------
 # The comparison
 # --------------------------------------------------------------------------
 
 
-def page_wrong(text: bytes, page: bytes) -> Iterator[str]:
-    """What is wrong with a page, apart from the model of it."""
+def fragment(job: checker.Job, node: int) -> set[int]:
+    """The node's states and where their edges lead, by the lines of the job."""
+    own = {s for s, owner in enumerate(job.owner) if owner == node}
+    return own.union(*(job.successors[s] for s in own))
+
+
+def page_wrong(text: bytes, page: bytes, node: int) -> Iterator[str]:
+    """What is wrong with a node's page after finish, apart from the model of it."""
     *lines, rest = page.split(b"\n")
     if rest or [len(line) for line in lines] != [79] * (int(text[:5]) + 1):
         yield "not S + 1 lines of 79 columns and byte 10"
         return
-    holding = checker.truths(checker.parse(text))
-    for s, line in enumerate(lines[1:]):
-        for k, true_at in enumerate(holding):
-            if line[16 + 2 * k : 17 + 2 * k] not in (b".", b"%d" % (s in true_at)):
-                yield f"not the truth of subformula {k} at state {s}"
+    job = checker.parse(text)
+    inside = fragment(job, node)
+    for k, true_at in enumerate(checker.truths(job)):
+        for s, line in enumerate(lines[1:]):
+            truth = b"%d" % (s in true_at)
+            if line[16 + 2 * k : 17 + 2 * k] != (truth if s in inside else b"."):
+                told = "the truth" if s in inside else "empty outside the fragment"
+                yield f"subformula {k} at state {s} is not {told}"
 
 
 class Pages(Comparison):
@@ -265,7 +276,7 @@ class Pages(Comparison):
         out, wrong = at_work.end(checker.LONGEST + 1)
         is_page = len(told) > len(told_line(0, 0))
         if is_page:
-            wrong += page_wrong(case.text, out)
+            wrong += page_wrong(case.text, out, int(case.arguments[0]))
             self.jobs.add(case.text)
             for line in told.splitlines()[1:]:
                 self.marks.update(line[15:])
@@ -289,16 +300,8 @@ class Pages(Comparison):
 
 def main() -> int:
     """The program."""
-    chosen = options(__doc__, 100)
-    rng = random.Random(chosen.seed)
-    cases = itertools.chain(
-        named_cases(),
-        valid_cases(rng),
-        argument_cases(rng),
-        damaged_cases(rng),
-        drawn_cases(rng, chosen.count),
-    )
-    return Pages(chosen.program).run(cases)
+    chosen = options(__doc__, COUNT)
+    return Pages(chosen.program).run(all_cases(chosen.seed, chosen.count))
 
 
 if __name__ == "__main__":

@@ -42,6 +42,7 @@ from generate import (
     written,
     written_line,
 )
+from page_cases import PAGE_V, told_page
 from tables import (
     WILD,
     any_calls,
@@ -530,10 +531,6 @@ def rule_test(rng: random.Random, count: int) -> None:
 # Pages
 # --------------------------------------------------------------------------
 
-def told_page(*lines: str) -> bytes:
-    """A page by its lines, without the spaces behind."""
-    return "".join(f"{line:79}\n" for line in lines).encode()
-
 
 def check_pages_told() -> None:
     """Pages worked out by hand: cells that no rule gives, states outside the
@@ -545,23 +542,23 @@ def check_pages_told() -> None:
     table += bytes([2, 2, 2, 2, 2, 2, 1, 2, 1])
     for node, cells in enumerate(
         (
-            ("0 1 .", "1 . 0", ". . ."),
-            (". . 1", "0 0 0", ". . ."),
-            (". . .", ". . .", "1 . 1"),
+            (b"0 1 .", b"1 . 0", b". . ."),
+            (b". . 1", b"0 0 0", b". . ."),
+            (b". . .", b". . .", b"1 . 1"),
         )
     ):
         page = told_page(
-            "                0 1 2",
-            f"    0    140000 {cells[0]}",
-            f"    1    0    7 {cells[1]}",
-            f"    2    2 1234 {cells[2]}",
+            b"                0 1 2",
+            b"    0    140000 " + cells[0],
+            b"    1    0    7 " + cells[1],
+            b"    2    2 1234 " + cells[2],
         )
         assert pages.lent(three.text(), table, node, bytes(320)) == ([0, 0], page)
     wide = Picture(1, [0], [65_535], [(0, 0)], [(ATOM, 0, 0)] * 32)
     page = told_page(
-        "                0 1 2 3 4 5 6 7 8 91011121314151617181920212223242526272829"
-        "3031",
-        "    0    065535" + " 0 1 . ." * 8,
+        b"                0 1 2 3 4 5 6 7 8 91011121314151617181920212223242526272829"
+        b"3031",
+        b"    0    065535" + b" 0 1 . ." * 8,
     )
     assert pages.lent(wide.text(), bytes([0, 1, 2, 2] * 8), 0, page) == ([0, 0], page)
     text = three.text()
@@ -624,11 +621,8 @@ def check_page(rng: random.Random, text: bytes) -> None:
 def check_pages_printed() -> None:
     """What the program prints: by hand for job V, and refusals."""
     text = JOB_V.text()
-    told = told_page(
-        "                0 1 2", "    0    0    1 1 0 0", "    1    1    1 1 0 0"
-    )
     for arguments in ((b"0",), (b"1",), (b"1", b"x"), (b"0", b"")):
-        assert pages.printed(text, *arguments) == told
+        assert pages.printed(text, *arguments) == PAGE_V
     for arguments in ((), (b"",), (b"2",), (b"9",), (b"00",), (b"x", b"0")):
         assert pages.printed(text, *arguments) == b"   11    0\n"
         assert pages.printed(text[:-1], *arguments) == b"    3    1\n"

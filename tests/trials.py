@@ -148,7 +148,7 @@ def damaged_trial(rng: random.Random) -> Trial:
     """A text that is refused, and every call with it."""
     job = small(rng)
     parsed = checker.parse(job.text())
-    found = [d for d in damaged.damages(rng, job) if len(d.text) <= 500]
+    found = [d for d in damaged.damages(rng, job) if len(d.text) <= damaged.COMPUTED]
     number = rng.choice(sorted({d.number for d in found}))
     damage = rng.choice([d for d in found if d.number == number])
     table = tables.good_table(rng, job.text())
@@ -178,7 +178,7 @@ def damages_of_one(rng: random.Random) -> list[Trial]:
             f"each damage: {damage.name}",
         )
         for damage in damaged.damages(rng, job)
-        if len(damage.text) <= 500
+        if len(damage.text) <= damaged.COMPUTED
     ]
 
 

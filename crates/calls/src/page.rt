@@ -14,8 +14,8 @@ pub enum Paged {
     Refused(Refusal),
 }
 
-// Writes the page of a node's table at the start of the buffer, which has 80 bytes at least for each state and 80 more. The table stays, and so do
-// the bytes behind the page; a refusal leaves every byte.
+// Writes the page of a node's table at the start of the buffer; one that is shorter than 80 bytes for each state and 80 more is refused. The table
+// stays, and so do the bytes behind the page; a refusal leaves every byte.
 pub fn page(text: &[u8], table: &[u8], node: usize, buffer: &mut [u8]) -> Paged
     ensures told { λ r. ⌜
         pageTold r ≡ answer (Call.page node (length (now (buffer .entry)))) (now (text .entry)) (now (table .entry))

@@ -2,10 +2,10 @@
 -- a call comes to what the number of the first no to its own questions says. What a yes to question 12 says, and the node that look reads.
 -- Assumes nothing.
 use Prim.Native.Nat.{ℕ, _*_, _<_}
-use mathlib.Core.Path.{_≡_, refl, sym, ap₂}
+use mathlib.Core.Path.{_≡_, refl, sym, ap, ap₂, _∙_}
 use mathlib.Core.Bool.{true, _&&_, _||_}
 use mathlib.Core.Logic.{⊎-elim}
-use mathlib.Core.List.{[]}
+use mathlib.Core.List.{List, []}
 use mathlib.Core.Option.{Option·elim}
 use native.Mathlib.Omega.{arith}
 use borrow.Author.Tests.{eq-eqb, ne-eqb, eqb-true, ltb-true}
@@ -16,7 +16,7 @@ use Rattle.law.proofs.Bool.{and-left, and-right, or-cases}
 use Rattle.law.proofs.Bounded.{by-equal}
 use Rattle.text.specs.Field.{Text}
 use Rattle.job.specs.Job.{Job, size, subformulaCount, decode}
-use Rattle.job.specs.Answer.{accepted, refused}
+use Rattle.job.specs.Answer.{Answer, accepted, refused}
 use Rattle.job.specs.Question.{isOwn, ofCall, refusal, noNumber}
 use Rattle.job.specs.Questions.{textQuestions, Accepted}
 use Rattle.job.specs.Read.{readAnswer, readTold, refusalOf}
@@ -74,6 +74,18 @@ module _ (c : Call) (x : Text) (t : Table) where
     own-accepted =
         later-accepted (textQuestions x) (ownQuestions c (decode x) t) (width c) (told c (decode x) t) t (left c (decode x) t) is
         (own-questions c (decode x) t) r asked
+
+-- On a text that the reader refuses no table matters.
+pub any-table :
+    (c : Call) (x : Text) (t u : Table)
+    → ((own : List ℕ) → accepted own ≡ readAnswer x → t ≡ u)
+    → answer c x t ≡ answer c x u
+any-table c x t u same = by-answer (readAnswer x) refl
+  where
+    by-answer : (a : Answer) → readAnswer x ≡ a → answer c x t ≡ answer c x u
+    by-answer (accepted own) e = ap (answer c x) (same own (sym e))
+    by-answer (refused number line others) e =
+        sym (text-refused c x t number line others (sym e) .0) ∙ text-refused c x u number line others (sym e) .0
 
 -- Fresh asks one question of its own.
 module _ (x : Text) (t : Table) (is : Accepted x) where

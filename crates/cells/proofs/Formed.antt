@@ -1,16 +1,19 @@
 -- Tables that pass questions 9 and 10: as long as the job says, each byte 0 to 2, and 2 outside fragments. Every call leaves
 -- such a table so. Assumes nothing.
-use Prim.Native.Nat.{ℕ, _≤_}
-use mathlib.Core.Bool.{true}
-use mathlib.Core.Path.{_≡_, _∙_}
+use Prim.Native.Nat.{ℕ, _<_, _≤_}
+use mathlib.Core.Bool.{true, false}
+use mathlib.Core.Path.{_≡_, ap₂, _∙_}
+use native.Mathlib.Omega.{arith}
 use lib.Dec.{eqb}
 use borrow.Author.Tests.{eqb-true, eq-eqb}
 use lib.ListN.{length, length-replicate}
-use Rattle.job.specs.Job.{Job}
-use Rattle.cells.specs.Table.{Table, tableLength, cell, cellsRight, freshTable}
+use Rattle.job.specs.Job.{Job, size, subformulaCount}
+use Rattle.cells.specs.Fragment.{inFragment}
+use Rattle.cells.specs.Table.{Table, tableLength, index, cell, inside, cellsRight, freshTable}
 use Rattle.cells.specs.Step.{stepColumn, stepTable}
 use Rattle.cells.specs.Close.{acceptTable, copyTable, closeTable}
 use Rattle.cells.specs.Finish.{round, finish}
+use Rattle.cells.proofs.Index.{index-lt, nodeOf-index, stateOf-index}
 use Rattle.cells.proofs.Grown.{Grown, stepColumn-grown, stepTable-grown, acceptTable-grown, copyTable-grown, closeTable-grown, round-grown, finish-grown}
 use Rattle.cells.proofs.Right.{Right, right-is, is-right, right-cell-small, fresh-right, stepColumn-right, stepTable-right, acceptTable-right, copyTable-right, closeTable-right, round-right, finish-right}
 
@@ -31,6 +34,14 @@ freshTable-formed J t e = record { long = length-replicate (length t) 2 ∙ e; r
 module _ (J : Job) (t : Table) (formed : Formed J t) where
   pub cell-low : (n s k : ℕ) → cell J t n s k ≤ 2
   cell-low = right-cell-small J t (formed .right)
+
+  -- a cell outside the node's fragment is empty
+  pub cell-outside : (n s k : ℕ) → n < J .nodes → s < size J → k < subformulaCount J → inFragment J n s ≡ false → cell J t n s k ≡ 2
+  unfolding cell inside
+  cell-outside n s k node state subformula away =
+      let here = index J n s k in
+      formed .right .outside here (omega (arith, index-lt J n s k node state subformula, formed .long))
+      (ap₂ (inFragment J) (nodeOf-index J n s k state subformula) (stateOf-index J n s k state subformula) ∙ away)
 
   grown-formed : (u : Table) → Grown J t u → Right J u → Formed J u
   grown-formed u g r = record { long = g .long ∙ formed .long; right = r }

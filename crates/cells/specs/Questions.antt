@@ -61,6 +61,6 @@ tableSettled J t = ofCall 19 (settled J t)
 unfoldable pub someOwnerEmpty : Job → Table → Question
 someOwnerEmpty J t = ofCall 20 (someOpen J t)
 
--- Document 02 (v): "24 the buffer is shorter than 80 × (S + 1)", which has so many bytes.
+-- Document 02 (v): "24 the buffer is shorter than 80 × (S + 1)". `room` is the buffer's length.
 unfoldable pub pageFits : Job → ℕ → Question
 pageFits J room = ofCall 24 (leb (80 * (size J + 1)) room)

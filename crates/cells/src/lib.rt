@@ -1,2 +1,2 @@
-// The table of cells: the fragments of a cutting, what each call of document 01 does to a table, and what it answers. Definitions and their
-// theory, no code: crate calls has the calls themselves.
+// The table of cells: the fragments of a cutting, what each call does to a table, and what it answers. Definitions and their theory, no code: crate
+// calls has the calls themselves.

@@ -53,7 +53,7 @@ use Rattle.promises.proofs.Filled.{happens-filled, sets-are}
 use Rattle.promises.proofs.Ends.{calls-defined, calls-cells, calls-finish, fresh-finish, same-verdict}
 use Rattle.promises.proofs.Judged.{prints-judged}
 use Rattle.promises.proofs.RuleText.{rules-first, rules-stay, rules-exact, rules-written, rules-in-job, means-in-order, rules-agree, prints-rule}
-use Rattle.promises.proofs.UnnamedNode.{happens-named, happens-owner, happens-unnamed, happens-never-18, happens-step-255, happens-accept-255}
+use Rattle.promises.proofs.UnnamedNode.{happens-named, happens-owner, happens-unnamed, happens-never-18, happens-step-255, happens-accept-255, happens-page-255}
 use Rattle.promises.proofs.AllAlong.{eg-walks, ag-walks, eg-ag-temporal, happens-eg, happens-ag, happens-closed, question-8}
 use Rattle.promises.proofs.OneWalk.{line-alone, kept-small, kept-6, kept-7, reads-walked, accepted-let-through, lower-through, lower-fails}
 use Rattle.promises.proofs.OnPaper.{pages-first, pages-stay, pages-written, pages-agree, prints-page}
@@ -204,6 +204,9 @@ module _ (l : Loan) (x : Text) (t u : Table) (a : Answer) where
   pub accept-refuses-255 : (s k v : ℕ) → Happens l x (accept 255 s k v) t a u → AnswersBy (unknownNodeQuestions x t) 1 [] a
   accept-refuses-255 = happens-accept-255 x t l a u
 
+  pub page-refuses-255 : (room : ℕ) → Happens l x (page 255 room) t a u → AnswersBy (unknownNodeQuestions x t) 0 [] a
+  page-refuses-255 = happens-page-255 x t l a u
+
 -- Request (iii), rules that hold all along. "EG a: on some walk a holds everywhere; AG a: on every walk."
 module _ (J : Job) (is : IsJob J) (k a s : ℕ) (l : k < subformulaCount J) where
   pub eg-on-some-walk :
@@ -304,15 +307,17 @@ pub equal-pages-equal-cells :
     → (take (pageBytes (decode x)) v ≡ take (pageBytes (decode x)) w) ↔ SameCells (decode x) n t u
 equal-pages-equal-cells = pages-agree
 
--- A list of calls may have pages in it: that is `demand-3`, of whose calls page is one. What the program page prints is the page of the table after
--- finish from fresh, so each mark on it is the CTL truth, or the two numbers of the refusal.
+-- A list of calls may have pages in it: that is `demand-3`, of whose calls page is one.
+
+-- The program page prints number and line of the refusal, 11 where no node is named, or the page of the table after finish from fresh: each `0` and `1`
+-- there is the CTL truth, and at a state that the node owns none is `.`.
 pub printed-page-is-truth : (l : Loan) (argument x : Text) (said : List ℕ) → PrintsPage l x argument said → PagePrinted argument x said
 printed-page-is-truth = prints-page
 
 -- What is supposed here can be had: what is defined may happen, a table fresh for a text, two cuttings of one machine, a list with messages, a
 -- rule within the limits, structures in which each state has an edge out, a look without a node that is accepted, jobs with EG and AG, a list
 -- with steps of EG, a close that fills 1 and a message about it, texts that question 5 lets through: every accepted one, and one that fails 6 and 7;
--- a list with pages, accepted and refused, and a page that is accepted whatever the buffer of enough bytes holds.
+-- a list with pages, accepted and refused, and two tables with different cells whose pages are accepted, whatever the buffer of 240 bytes holds.
 pub defined-may-happen : (l : Loan) (x : Text) → MayHappen l x
 defined-may-happen = may-happen
 
@@ -378,6 +383,10 @@ pub calls-with-pages :
     ∷ [])
 calls-with-pages = page-example
 
-pub a-page-accepted :
-    (t : Table) × ((b : List ℕ) → length b ≡ 240 → (w : List ℕ) × Pages lent (bytes jobV) t 0 b (accepted []) w)
-a-page-accepted = paged
+pub two-pages-accepted :
+    (t : Table)
+    × (u : Table)
+    × ((b : List ℕ) → length b ≡ 240 → (w : List ℕ) × Pages lent (bytes jobV) t 0 b (accepted []) w)
+    × ((b : List ℕ) → length b ≡ 240 → (w : List ℕ) × Pages lent (bytes jobV) u 0 b (accepted []) w)
+    × (SameCells (decode (bytes jobV)) 0 t u → ⊥)
+two-pages-accepted = paged

@@ -1,4 +1,4 @@
--- The table that the programs use: by line 1 alone it has the job's length, and where the text is refused no table matters. Assumes nothing.
+-- The table that the programs use: by line 1 alone it has the job's length. Assumes nothing.
 use Prim.Native.Nat.{ℕ, zero, suc, _-_, _*_, _≤_}
 use mathlib.Core.Path.{_≡_, refl, sym, _∙_, ap, ap₂, subst}
 use mathlib.Core.List.{List, _∷_, _++_}
@@ -8,7 +8,7 @@ use lib.Seq.{take-at}
 use Rattle.text.specs.Field.{Text}
 use Rattle.job.specs.Layout.{states, subformulas, nodes}
 use Rattle.job.specs.Job.{decode}
-use Rattle.job.specs.Answer.{Answer, accepted, refused}
+use Rattle.job.specs.Answer.{accepted}
 use Rattle.job.specs.Read.{readAnswer, readTold, headAnswer}
 use Rattle.job.specs.declared.reading.Header.{Header}
 use Rattle.job.specs.declared.reading.Reading.the-variants.{Accepted, Refused}
@@ -18,9 +18,8 @@ use Rattle.job.proofs.LayoutLaws.{head-fits}
 use Rattle.job.proofs.ReadLaws.{read-head-refused, product-small, decode-length}
 use Rattle.cells.specs.Table.{Table, tableLength}
 use Rattle.cells.specs.Finish.{finish}
-use Rattle.cells.specs.Calls.{Call, questions, left, answer, after}
+use Rattle.cells.specs.Calls.{Call, questions, left, after}
 use Rattle.cells.proofs.Grown.{finish-grown}
-use Rattle.cells.proofs.CallLaws.{text-refused}
 
 -- line 1 is accepted: its numbers give the table's length
 module _ (x : Text) (h : Header) (told : readTold (Accepted h) ≡ headAnswer x) where
@@ -44,20 +43,8 @@ unfolding readTold
 size-refused x own why told read =
     refused-not-accepted own (why .number) (why .line) 4 (read ∙ sym (read-head-refused x (why .number) (why .line) told))
 
--- the answer of a call on a table of the job's length, if the text is accepted, whatever the table else
-pub any-table :
-    (c : Call) (x : Text) (t u : Table)
-    → ((own : List ℕ) → accepted own ≡ readAnswer x → t ≡ u)
-    → answer c x t ≡ answer c x u
-any-table c x t u same = by-answer (readAnswer x) refl
-  where
-    by-answer : (a : Answer) → readAnswer x ≡ a → answer c x t ≡ answer c x u
-    by-answer (accepted own) e = ap (answer c x) (same own (sym e))
-    by-answer (refused number line others) e =
-        sym (text-refused c x t number line others (sym e) .0) ∙ text-refused c x u number line others (sym e) .0
-
 -- the first cells of a fresh table are a fresh table
-pub take-fresh : (n m : ℕ) → n ≤ m → take {A = ℕ} n (replicate m 2) ≡ replicate n 2
+take-fresh : (n m : ℕ) → n ≤ m → take {A = ℕ} n (replicate m 2) ≡ replicate n 2
 take-fresh zero m h = refl
 take-fresh (suc n) zero h = absurd (omega arith)
 take-fresh (suc n) (suc m) h = ap (λ (l : List ℕ). 2 ∷ l) (take-fresh n m (omega arith))

@@ -9,3 +9,4 @@ pub mod Agrees
 pub mod Exact
 pub mod RuleLaws
 pub mod ReadLaws
+pub mod SmallLaws

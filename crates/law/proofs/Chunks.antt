@@ -2,11 +2,11 @@
 -- them. Assumes nothing.
 use Prim.Native.Nat.{ℕ, zero, suc, _+_, _*_, _<_}
 use mathlib.Core.Path.{_≡_, refl, sym, _∙_, ap, ap₂}
-use mathlib.Core.List.{List, [], _++_, append-assoc, append-nil}
+use mathlib.Core.List.{List, [], _∷_, _++_, append-assoc, append-nil}
 use mathlib.Core.Bool.{Bool, true}
 use native.Mathlib.Nat.{not-suc-le-zero, le-of-suc-le-suc, add-zero, add-suc, suc-add, mul-zero, mul-suc, add-comm, zero-add, add-assoc}
 use native.Mathlib.Omega.{arith}
-use lib.ListN.{length, take, drop, getD, length-append}
+use lib.ListN.{length, take, drop, getD, replicate, length-append}
 use lib.Seq.{take-at, drop-append-add, take-add, drop-drop, getD-take, getD-drop}
 use Rattle.law.specs.Lists.{from, tab, flatten, every}
 use Rattle.law.proofs.Lists.{every-append}
@@ -61,6 +61,15 @@ every-chunk p f each n = go n 0
     go : (n i : ℕ) → every p (flatten (from f i n)) ≡ true
     go zero i = refl
     go (suc n) i = every-append p (f i) (flatten (from f (suc i) n)) (each i) (go n (suc i))
+
+-- One element, so many times.
+pub chunks-replicate : {A : Type 0} (a : A) (n : ℕ) → flatten (tab (λ i. a ∷ []) n) ≡ replicate n a
+unfolding tab from flatten
+chunks-replicate a n = go n 0
+  where
+    go : (n i : ℕ) → flatten (from (λ j. a ∷ []) i n) ≡ replicate n a
+    go zero i = refl
+    go (suc n) i = ap (λ l. a ∷ l) (go n (suc i))
 
 -- and a list that has the chunk f i at each place i is made of them there
 module _ {A : Type 0} (w : ℕ) (f : ℕ → List A) (t : List A) where

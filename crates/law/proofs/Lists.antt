@@ -47,6 +47,15 @@ module _ {A : Type 0} (f : ℕ → A) where
   pub tab-list : (n : ℕ) (l : List A) (d : A) → n ≡ length l → ((i : ℕ) → i < length l → f i ≡ getD l i d) → tab f n ≡ l
   tab-list n l d e same = sym (tab-is n l d (sym e) (λ i h. sym (same i (omega arith))))
 
+-- the first is f 0, and behind it come those of the numbers from 1 on
+pub tab-first : {A : Type 0} (f : ℕ → A) (n : ℕ) → tab f (suc n) ≡ f 0 ∷ tab (λ i. f (suc i)) n
+unfolding tab from
+tab-first f n = ap (λ l. f 0 ∷ l) (go n 0)
+  where
+    go : (n i : ℕ) → from f (suc i) n ≡ from (λ j. f (suc j)) i n
+    go zero i = refl
+    go (suc n) i = ap (λ l. f (suc i) ∷ l) (go n (suc i))
+
 pub tab-same : {A : Type 0} (f g : ℕ → A) (n : ℕ) (d : A) → ((i : ℕ) → i < n → f i ≡ g i) → tab f n ≡ tab g n
 tab-same f g n d same = tab-is g n (tab f n) d (tab-length f n) (λ i l. tab-at f n i d l ∙ same i l)
 

@@ -1,8 +1,8 @@
 -- What is printed, from what the call answers and leaves in the bytes that it is lent. Assumes nothing.
-use Prim.Native.Nat.{ℕ, _+_, _*_, _≤_}
+use Prim.Native.Nat.{ℕ, _+_, _≤_}
 use mathlib.Core.Path.{_≡_, refl, sym, ap, _∙_}
 use mathlib.Core.Bool.{Bool, true, _&&_}
-use mathlib.Core.List.{List, [], _∷_, _++_}
+use mathlib.Core.List.{List, [], _∷_}
 use mathlib.Core.Option as opt
 use native.Mathlib.Omega.{arith}
 use borrow.Author.Tests.{leb-true}
@@ -14,25 +14,25 @@ use Rattle.law.proofs.Bool.{and-left, and-right}
 use Rattle.text.specs.Field.{Text}
 use Rattle.text.specs.Decimal.{line, Short}
 use Rattle.text.proofs.Line.{line-length}
-use Rattle.job.specs.Job.{Job, decode}
+use Rattle.job.specs.Job.{decode}
 use Rattle.job.specs.Answer.{Answer, accepted, refused}
 use Rattle.job.specs.Question.{Question, ofCall, refusal}
 use Rattle.job.specs.Questions.{textQuestions, Accepted}
 use Rattle.job.specs.Read.{header, readAnswer}
 use Rattle.job.proofs.Exact.{decode-is-job}
+use Rattle.job.proofs.SmallLaws.{refused-small}
 use Rattle.job.proofs.QuestionLaws.{by-refusal, refused-not-accepted, answered-none, answered-some, accepted-none, refusal-before, refusal-later, refusal-has}
 use Rattle.cells.specs.Table.{Table}
 use Rattle.cells.specs.Questions.{tableSize, tableCells, nodeBelow, pageFits}
 use Rattle.cells.specs.Calls.{Call, ownQuestions, questions, width, told, answer, after}
-use Rattle.cells.proofs.CallLaws.{text-refused}
+use Rattle.cells.proofs.CallLaws.{text-refused, any-table}
 use Rattle.page_text.specs.Page.{page}
 use Rattle.page_text.specs.PageCall.{overwritten, pageBuffer}
 use Rattle.page_text.proofs.PageLaws.{page-length}
 use Rattle.page_text.proofs.BufferLaws.{buffer-accepted}
 use Rattle.from_fresh.specs.TableSize.{TableSize}
-use Rattle.from_fresh.proofs.TableLaws.{any-table}
-use Rattle.from_fresh.proofs.SmallLaws.{refused-small}
-use Rattle.page_output.specs.PageOutput.{nodeNamed, finishedTable, room, printed, pageOutput, PageSize}
+use Rattle.page_output.specs.PageOutput.{nodeNamed, finishedTable, room, printed, pageOutput}
+use Rattle.page_output.specs.PageSize.{PageSize}
 
 -- The call's numbers are small.
 module _ (x : Text) (t : Table) (n bytes : ℕ) where
@@ -68,7 +68,7 @@ module _ (x : Text) (t : Table) (n bytes : ℕ) where
         rw at-is (leb-true (q .line) 2338 (and-right (leb (q .number) 24) (leb (q .line) 2338) small)),
       )
 
-  pub refusal-small : (number at others : ℕ) → refused number at others ≡ answer call x t → Small number at
+  refusal-small : (number at others : ℕ) → refused number at others ≡ answer call x t → Small number at
   unfolding answer readAnswer
   refusal-small number at others e = by-text (readAnswer x) refl
     where
@@ -89,7 +89,7 @@ module _ (x : Text) (t : Table) (n bytes : ℕ) where
   numbers-short number at others e = let small = refusal-small number at others e in (omega arith, (omega arith, tt))
 
   -- an accepted call was passed the text of a job
-  pub text-taken : (own : List ℕ) → accepted own ≡ answer call x t → Accepted x
+  text-taken : (own : List ℕ) → accepted own ≡ answer call x t → Accepted x
   unfolding answer questions Accepted
   text-taken own e =
       refusal-before (textQuestions x) (ownQuestions call (decode x) t)

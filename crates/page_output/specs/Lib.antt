@@ -1,1 +1,2 @@
 pub mod PageOutput
+pub mod PageSize

@@ -1,20 +1,18 @@
 -- What the program page prints of its argument and its input: the page of a node's table after finish from fresh, or where something is refused
 -- number and line. Assumes nothing.
-use Prim.Native.Nat.{ℕ, _+_, _-_, _*_, _≤_}
-use mathlib.Core.Path.{_≡_}
+use Prim.Native.Nat.{ℕ, _-_}
 use mathlib.Core.Bool.{cond}
 use mathlib.Core.List.{List, [], _∷_}
 use lib.ListN.{replicate}
 use Rattle.text.specs.Field.{Text, isDigit}
 use Rattle.text.specs.Decimal.{line}
-use Rattle.job.specs.Job.{size, decode}
+use Rattle.job.specs.Job.{decode}
 use Rattle.job.specs.Answer.{Answer, accepted, refused}
-use Rattle.job.specs.Read.{readAnswer}
 use Rattle.cells.specs.Table.{Table, tableLength}
 use Rattle.cells.specs.Calls.{Call, answer, after}
 use Rattle.page_text.specs.Page.{page}
 
--- The node that the argument names: a digit does, since no job has more than 8 nodes. Whatever else it is, and where it is missing, it is read as 255,
+-- The node that the argument names: one digit does, and no job has more than 8 nodes. Whatever else it is, and where it is missing, it is read as 255,
 -- which is no node's number.
 unfoldable pub nodeNamed : List ℕ → ℕ
 nodeNamed [] = 255
@@ -39,8 +37,3 @@ pageOutput argument x =
     let n = nodeNamed argument in
     let t = finishedTable x in
     printed (answer (Call.page n room) x t) (page (decode x) t n)
-
--- r is at most the bytes of the longest page, and where the text is accepted it is those of its job's.
-pub record PageSize (x : Text) (r : ℕ) : Type 0 where
-  pub small : r ≤ room
-  pub right : (own : List ℕ) → accepted own ≡ readAnswer x → r ≡ 80 * (size (decode x) + 1)

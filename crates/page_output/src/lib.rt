@@ -2,7 +2,8 @@
 ghost use mathlib.Core.Path.{_≡_};
 ghost use Prim.Native.Nat.{_≤_};
 ghost use lib.ListN.{length, take};
-ghost use Rattle.page_output.specs.PageOutput.{nodeNamed, pageOutput, PageSize};
+ghost use Rattle.page_output.specs.PageOutput.{nodeNamed, pageOutput};
+ghost use Rattle.page_output.specs.PageSize.{PageSize};
 use calls::page::Paged;
 use calls::page::page;
 use from_fresh::finish_fresh;
@@ -19,16 +20,19 @@ pub struct Output {
     pub length: usize,
 }
 
-// The node that the argument names: no job has more than 8, so a digit does or nothing.
+// No job has so many nodes.
+const NO_NODE: usize = 255;
+
+// The node that the argument names: one digit does, since no job has more than 8 nodes.
 fn node_named(argument: &[u8]) -> usize
     ensures { λ r. ⌜ r ≡ nodeNamed (now (argument .entry)) ⌝ }
 {
     if argument.len() != 1 {
-        return 255;
+        return NO_NODE;
     }
     let c = argument[0];
     if !is_digit(c) {
-        return 255;
+        return NO_NODE;
     }
     digit(c)
 }

@@ -4,9 +4,10 @@ use Prim.Native.Nat.{ℕ, zero, suc, _+_, _-_, _*_, _/_, _%_, _<_, _≤_}
 use mathlib.Core.Path.{_≡_, refl, sym, ap, _∙_}
 use mathlib.Core.Bool.{Bool, true, not, _&&_}
 use mathlib.Core.List.{[], _∷_, _++_, append-assoc, append-nil}
+use native.Mathlib.Nat.{zero-add}
 use native.Mathlib.Omega.{arith}
 use lib.Dec.{leb, ltb, eqb}
-use lib.ListN.{length, getD, replicate, take, drop, length-append, length-replicate, List·getD-append}
+use lib.ListN.{length, getD, replicate, take, drop, length-append, length-replicate, getD-replicate, List·getD-append}
 use lib.Seq.{getD-append-add, take-at, take-take}
 use borrow.Author.Tests.{ne-eqb, le-leb}
 use Rattle.law.specs.Lists.{tab, flatten, every}
@@ -16,10 +17,10 @@ use Rattle.law.proofs.Lists.{tab-same, every-append}
 use Rattle.law.proofs.Chunks.{chunks-length, chunk-at, chunk-element, every-chunk}
 use Rattle.text.specs.Field.{Text}
 use Rattle.text.specs.Decimal.{digitColumn, decimal}
-use Rattle.job.specs.Job.{Job, size, subformulaCount, owner}
-use Rattle.job.specs.Written.{label, IsJob}
+use Rattle.job.specs.Job.{Job, size, subformulaCount}
+use Rattle.job.specs.Written.{IsJob}
 use Rattle.cells.specs.Table.{Table, cell, isEmpty}
-use Rattle.page_text.specs.Page.{twoColumns, heading, cellMark, rowFront, rowCells, columnsOf, filledLine, pageLines, page}
+use Rattle.page_text.specs.Page.{twoColumns, heading, cellMark, rowFront, rowCells, columnsOf, filledLine, pageLine, pageLines, page}
 
 -- A mark tells the cell.
 pub mark-empty : cellMark 2 ≡ 46
@@ -41,80 +42,141 @@ mark-same c d same =
     (λ f. absurd (let wrong : 48 + c ≡ 46 = sym (mark-filled c e) ∙ same ∙ ap cellMark f ∙ mark-empty in omega arith))
     (λ f. let sum : 48 + c ≡ 48 + d = sym (mark-filled c e) ∙ same ∙ mark-filled d f in omega arith))
 
--- A line of so few columns is filled to 79, and byte 10 is the eightieth.
+-- The 79 columns of a line, with the spaces that fill it, and byte 10.
 module _ (columns : Text) (few : length columns ≤ 79) where
-  pub filled-length : length (filledLine columns) ≡ 80
+  abbrev spaces : Text
+  spaces = replicate (79 - length columns) 32
+
+  spaces-length : length spaces ≡ 79 - length columns
+  spaces-length = length-replicate (79 - length columns) 32
+
+  pub filled-ends : filledLine columns ≡ (columns ++ spaces) ++ (10 ∷ [])
   unfolding filledLine
-  filled-length =
-      let spaces : Text = replicate (79 - length columns) 32 in
-      length-append columns (spaces ++ (10 ∷ []))
-      ∙ omega (arith, length-append {A = ℕ} spaces (10 ∷ []), length-replicate {A = ℕ} (79 - length columns) 32)
+  filled-ends = sym (append-assoc columns spaces (10 ∷ []))
+
+  pub filled-columns : length (columns ++ spaces) ≡ 79
+  filled-columns = length-append columns spaces ∙ omega (arith, spaces-length)
+
+  filled-length : length (filledLine columns) ≡ 80
+  filled-length = ap length filled-ends ∙ length-append (columns ++ spaces) (10 ∷ []) ∙ omega (arith, filled-columns)
+
+  -- behind the columns stand spaces
+  filled-space : (j : ℕ) → length columns ≤ j → j < 79 → getD (filledLine columns) j 0 ≡ 32
+  unfolding filledLine
+  filled-space j past inside =
+      let i : ℕ = j - length columns in
+      let place : j ≡ length columns + i = omega arith in
+      ap (λ (k : ℕ). getD (columns ++ (spaces ++ (10 ∷ []))) k 0) place
+      ∙ getD-append-add columns (spaces ++ (10 ∷ [])) i 0
+      ∙ List·getD-append spaces (10 ∷ []) 0 i (omega (arith, spaces-length))
+      ∙ getD-replicate (79 - length columns) i 32 0 (omega arith)
+
+-- A line of 15 columns in front and two for each subformula: what stands in these.
+module _ (front : Text) (long : length front ≡ 15) (pair : ℕ → Text) (wide : (k : ℕ) → length (pair k) ≡ 2) (count : ℕ) where
+  abbrev whole : Text
+  whole = front ++ flatten (tab pair count)
+
+  whole-length : length whole ≡ 15 + 2 * count
+  whole-length = length-append front (flatten (tab pair count)) ∙ omega (arith, long, chunks-length 2 pair wide count)
+
+  pair-column : (k j : ℕ) → k < count → j < 2 → getD (filledLine whole) (15 + (2 * k + j)) 0 ≡ getD (pair k) j 0
+  unfolding filledLine
+  pair-column k j l h =
+      let place : 15 + (2 * k + j) ≡ length front + (2 * k + j) = omega (arith, long) in
+      List·getD-append whole (replicate (79 - length whole) 32 ++ (10 ∷ [])) 0 (15 + (2 * k + j)) (omega (arith, whole-length))
+      ∙ ap (λ (i : ℕ). getD whole i 0) place
+      ∙ getD-append-add front (flatten (tab pair count)) (2 * k + j) 0
+      ∙ chunk-element 2 pair wide count k j 0 l h
+
+  front-columns : take 15 (filledLine whole) ≡ front
+  unfolding filledLine
+  front-columns =
+      ap (take 15) (append-assoc front (flatten (tab pair count)) (replicate (79 - length whole) 32 ++ (10 ∷ [])))
+      ∙ take-at front (flatten (tab pair count) ++ (replicate (79 - length whole) 32 ++ (10 ∷ []))) 15 long
+
+pub heading-length : (count : ℕ) → length (heading count) ≡ 15 + 2 * count
+unfolding heading twoColumns
+heading-length count = whole-length (replicate 15 32) refl twoColumns (λ k. refl) count
+
+pub row-length : (J : Job) (t : Table) (n s : ℕ) → length (rowFront J s ++ rowCells J t n s) ≡ 15 + 2 * subformulaCount J
+unfolding rowFront decimal rowCells
+row-length J t n s = whole-length (rowFront J s) refl (λ k. 32 ∷ cellMark (cell J t n s k) ∷ []) (λ k. refl) (subformulaCount J)
 
 module _ (J : Job) (t : Table) (n : ℕ) where
-  abbrev lineAt : ℕ → Text
-  lineAt i = filledLine (columnsOf J t n i)
-
-  front-length : (s : ℕ) → length (rowFront J s) ≡ 15
-  unfolding rowFront decimal
-  front-length s = refl
-
-  cells-length : (s : ℕ) → length (rowCells J t n s) ≡ 2 * subformulaCount J
-  unfolding rowCells
-  cells-length s = chunks-length 2 (λ k. 32 ∷ cellMark (cell J t n s k) ∷ []) (λ k. refl) (subformulaCount J)
-
-  columns-length : (i : ℕ) → length (columnsOf J t n i) ≡ 15 + 2 * subformulaCount J
-  unfolding columnsOf heading twoColumns
-  columns-length zero =
-      length-append (replicate 15 32) (flatten (tab twoColumns (subformulaCount J)))
-      ∙ ap (λ (m : ℕ). 15 + m) (chunks-length 2 twoColumns (λ k. refl) (subformulaCount J))
-  columns-length (suc s) = length-append (rowFront J s) (rowCells J t n s) ∙ omega (arith, front-length s, cells-length s)
+  pub columns-length : (i : ℕ) → length (columnsOf J t n i) ≡ 15 + 2 * subformulaCount J
+  unfolding columnsOf
+  columns-length zero = heading-length (subformulaCount J)
+  columns-length (suc s) = row-length J t n s
 
   module _ (is : IsJob J) where
-    columns-few : (i : ℕ) → length (columnsOf J t n i) ≤ 79
+    pub columns-few : (i : ℕ) → length (columnsOf J t n i) ≤ 79
     columns-few i = let most = is .subformulas .below in omega (arith, columns-length i)
 
-    pub line-long : (i : ℕ) → length (lineAt i) ≡ 80
+    pub line-long : (i : ℕ) → length (pageLine J t n i) ≡ 80
+    unfolding pageLine
     line-long i = filled-length (columnsOf J t n i) (columns-few i)
 
     pub page-length : length (page J t n) ≡ 80 * (size J + 1)
     unfolding page pageLines
-    page-length = chunks-length 80 lineAt line-long (size J + 1)
+    page-length = chunks-length 80 (pageLine J t n) line-long (size J + 1)
 
-    -- Column j of the line of a state.
-    row-column : (s j : ℕ) → s < size J → j < 80 → getD (page J t n) (80 * suc s + j) 0 ≡ getD (lineAt (suc s)) j 0
+    -- Line i of the page, and column j of it.
+    pub page-line : (i : ℕ) → i < size J + 1 → take 80 (drop (80 * i) (page J t n)) ≡ pageLine J t n i
     unfolding page pageLines
-    row-column s j l h = chunk-element 80 lineAt line-long (size J + 1) (suc s) j 0 (omega arith) h
+    page-line i l =
+        let whole = flatten (tab (pageLine J t n) (size J + 1)) in
+        rw (append-nil whole, zero-add (80 * i)) at (chunk-at 80 (pageLine J t n) line-long (size J + 1) i 0 [] [] refl l)
 
-    -- The numbers of the line of a state.
+    page-column : (i j : ℕ) → i < size J + 1 → j < 80 → getD (page J t n) (80 * i + j) 0 ≡ getD (pageLine J t n i) j 0
+    unfolding page pageLines
+    page-column i j l h = chunk-element 80 (pageLine J t n) line-long (size J + 1) i j 0 l h
+
+    -- Behind the columns of each line stand spaces.
+    pub page-filled : (i j : ℕ) → i < size J + 1 → 15 + 2 * subformulaCount J ≤ j → j < 79 → getD (page J t n) (80 * i + j) 0 ≡ 32
+    unfolding pageLine
+    page-filled i j l past inside =
+        page-column i j l (omega arith) ∙ filled-space (columnsOf J t n i) (columns-few i) j (omega (arith, columns-length i)) inside
+
+    -- What stands in front in a line: 15 spaces, or the numbers of a state.
+    line-front : (i : ℕ) (front : Text) → i < size J + 1 → take 15 (pageLine J t n i) ≡ front → take 15 (drop (80 * i) (page J t n)) ≡ front
+    line-front i front l e = sym (take-take 15 80 (drop (80 * i) (page J t n)) (omega arith)) ∙ ap (take 15) (page-line i l) ∙ e
+
+    pub page-spaces : take 15 (page J t n) ≡ replicate 15 32
+    unfolding pageLine columnsOf heading twoColumns
+    page-spaces = line-front 0 (replicate 15 32) (omega arith) (front-columns (replicate 15 32) refl twoColumns (λ k. refl) (subformulaCount J))
+
     pub page-front : (s : ℕ) → s < size J → take 15 (drop (80 * (s + 1)) (page J t n)) ≡ rowFront J s
-    unfolding page pageLines filledLine columnsOf
+    unfolding pageLine columnsOf rowFront decimal rowCells
     page-front s l =
-        let one : 0 + 80 * suc s ≡ 80 * (s + 1) = omega arith in
-        let whole = flatten (tab lineAt (size J + 1)) in
-        let row : take 80 (drop (80 * (s + 1)) whole) ≡ lineAt (suc s) =
-        rw (append-nil whole, one) at (chunk-at 80 lineAt line-long (size J + 1) (suc s) 0 [] [] refl (omega arith)) in
-        sym (take-take 15 80 (drop (80 * (s + 1)) whole) (omega arith))
-        ∙ ap (take 15) row
-        ∙ ap (take 15) (append-assoc (rowFront J s) (rowCells J t n s) (replicate (79 - length (columnsOf J t n (suc s))) 32 ++ (10 ∷ [])))
-        ∙ take-at (rowFront J s) (rowCells J t n s ++ (replicate (79 - length (columnsOf J t n (suc s))) 32 ++ (10 ∷ []))) 15 (front-length s)
+        let one : s + 1 ≡ suc s = omega arith in
+        rw one
+        (line-front (suc s) (rowFront J s) (omega arith)
+        (front-columns (rowFront J s) refl (λ k. 32 ∷ cellMark (cell J t n s k) ∷ []) (λ k. refl) (subformulaCount J)))
 
-    module _ (s k : ℕ) (k-in : k < subformulaCount J) where
-      row-mark : getD (lineAt (suc s)) (16 + 2 * k) 0 ≡ cellMark (cell J t n s k)
-      unfolding filledLine columnsOf rowCells
-      row-mark =
-          let pieces : ℕ → Text = λ k. 32 ∷ cellMark (cell J t n s k) ∷ [] in
-          let place : 16 + 2 * k ≡ length (rowFront J s) + (2 * k + 1) = omega (arith, front-length s) in
-          List·getD-append (columnsOf J t n (suc s)) _ 0 (16 + 2 * k) (omega (arith, columns-length (suc s)))
-          ∙ ap (λ (i : ℕ). getD (rowFront J s ++ rowCells J t n s) i 0) place
-          ∙ getD-append-add (rowFront J s) (rowCells J t n s) (2 * k + 1) 0
-          ∙ chunk-element 2 pieces (λ k. refl) (subformulaCount J) k 1 0 k-in (omega arith)
-
-      -- The mark of a state and a subformula.
-      pub page-mark : s < size J → getD (page J t n) (80 * (s + 1) + (16 + 2 * k)) 0 ≡ cellMark (cell J t n s k)
-      page-mark l =
+    module _ (k : ℕ) (k-in : k < subformulaCount J) where
+      -- The number of a subformula in the heading.
+      pub page-number : (j : ℕ) → j < 2 → getD (page J t n) (15 + (2 * k + j)) 0 ≡ getD (twoColumns k) j 0
+      unfolding pageLine columnsOf heading twoColumns
+      page-number j h =
           let most = is .subformulas .below in
-          let one : 80 * (s + 1) ≡ 80 * suc s = omega arith in
-          ap (λ (a : ℕ). getD (page J t n) (a + (16 + 2 * k)) 0) one ∙ row-column s (16 + 2 * k) l (omega arith) ∙ row-mark
+          ap (λ (i : ℕ). getD (page J t n) i 0) (sym (zero-add (15 + (2 * k + j))))
+          ∙ page-column 0 (15 + (2 * k + j)) (omega arith) (omega arith)
+          ∙ pair-column (replicate 15 32) refl twoColumns (λ k. refl) (subformulaCount J) k j k-in h
+
+      -- A space and the mark of a state and a subformula.
+      pub page-cell : (s j : ℕ) → s < size J → j < 2 → getD (page J t n) (80 * (s + 1) + (15 + (2 * k + j))) 0 ≡ getD (32 ∷ cellMark (cell J t n s k) ∷ []) j 0
+      unfolding pageLine columnsOf rowFront decimal rowCells
+      page-cell s j l h =
+          let most = is .subformulas .below in
+          let one : s + 1 ≡ suc s = omega arith in
+          rw one
+          (page-column (suc s) (15 + (2 * k + j)) (omega arith) (omega arith)
+          ∙ pair-column (rowFront J s) refl (λ k. 32 ∷ cellMark (cell J t n s k) ∷ []) (λ k. refl) (subformulaCount J) k j k-in h)
+
+      pub page-mark : (s : ℕ) → s < size J → getD (page J t n) (80 * (s + 1) + (16 + 2 * k)) 0 ≡ cellMark (cell J t n s k)
+      page-mark s l =
+          let place : 80 * (s + 1) + (16 + 2 * k) ≡ 80 * (s + 1) + (15 + (2 * k + 1)) = omega arith in
+          ap (λ (i : ℕ). getD (page J t n) i 0) place ∙ page-cell s 1 l (omega arith)
 
 -- Equal pages of one job are equal cells of that node, and equal cells equal pages.
 module _ (J : Job) (is : IsJob J) (n : ℕ) (t u : Table) where
@@ -122,12 +184,12 @@ module _ (J : Job) (is : IsJob J) (n : ℕ) (t u : Table) where
       page J t n ≡ page J u n → (s k : ℕ) → s < size J → k < subformulaCount J → cell J t n s k ≡ cell J u n s k
   pages-cells same s k l m =
       mark-same (cell J t n s k) (cell J u n s k)
-      (sym (page-mark J t n is s k m l) ∙ ap (λ (p : Text). getD p (80 * (s + 1) + (16 + 2 * k)) 0) same ∙ page-mark J u n is s k m l)
+      (sym (page-mark J t n is k m s l) ∙ ap (λ (p : Text). getD p (80 * (s + 1) + (16 + 2 * k)) 0) same ∙ page-mark J u n is k m s l)
 
   pub cells-pages :
       ((s k : ℕ) → s < size J → k < subformulaCount J → cell J t n s k ≡ cell J u n s k) → page J t n ≡ page J u n
-  unfolding page pageLines columnsOf rowCells
-  cells-pages same = ap flatten (tab-same (lineAt J t n) (lineAt J u n) (size J + 1) [] line-same)
+  unfolding page pageLines pageLine columnsOf rowCells
+  cells-pages same = ap flatten (tab-same (pageLine J t n) (pageLine J u n) (size J + 1) [] line-same)
     where
       row-same : (s : ℕ) → s < size J → rowCells J t n s ≡ rowCells J u n s
       row-same s l =
@@ -135,11 +197,11 @@ module _ (J : Job) (is : IsJob J) (n : ℕ) (t u : Table) where
           (tab-same (λ k. 32 ∷ cellMark (cell J t n s k) ∷ []) (λ k. 32 ∷ cellMark (cell J u n s k) ∷ []) (subformulaCount J) []
           (λ k m. ap (λ (c : ℕ). 32 ∷ cellMark c ∷ []) (same s k l m)))
 
-      line-same : (i : ℕ) → i < size J + 1 → lineAt J t n i ≡ lineAt J u n i
+      line-same : (i : ℕ) → i < size J + 1 → pageLine J t n i ≡ pageLine J u n i
       line-same zero l = refl
       line-same (suc s) l = ap (λ (cells : Text). filledLine (rowFront J s ++ cells)) (row-same s (omega arith))
 
--- No column is a control character, so byte 10 is the last of each line and stands nowhere else.
+-- No column is below 32, so byte 10 is the last of each line and stands nowhere else.
 abbrev pub visible : ℕ → Bool
 visible b = leb 32 b
 
@@ -180,19 +242,9 @@ columns-visible J t n (suc s) =
     every-append visible (rowFront J s) (rowCells J t n s) (front-visible s _ _)
     (every-chunk visible (λ k. 32 ∷ cellMark (cell J t n s k) ∷ []) (λ k. simp (mark-visible (cell J t n s k))) (subformulaCount J))
 
--- The 79 columns of line i, with the spaces that fill it.
-module _ (J : Job) (t : Table) (n : ℕ) (is : IsJob J) (i : ℕ) where
-  abbrev spaces : Text
-  spaces = replicate (79 - length (columnsOf J t n i)) 32
-
-  pub line-ends : filledLine (columnsOf J t n i) ≡ (columnsOf J t n i ++ spaces) ++ (10 ∷ [])
-  unfolding filledLine
-  line-ends = sym (append-assoc (columnsOf J t n i) spaces (10 ∷ []))
-
-  pub body-length : length (columnsOf J t n i ++ spaces) ≡ 79
-  body-length =
-      length-append (columnsOf J t n i) spaces
-      ∙ omega (arith, columns-few J t n is i, length-replicate {A = ℕ} (79 - length (columnsOf J t n i)) 32)
-
-  pub body-visible : every visible (columnsOf J t n i ++ spaces) ≡ true
-  body-visible = every-append visible (columnsOf J t n i) spaces (columns-visible J t n i) (spaces-visible (79 - length (columnsOf J t n i)))
+-- The columns of line i, with the spaces that fill it.
+pub body-visible :
+    (J : Job) (t : Table) (n i : ℕ) → every visible (columnsOf J t n i ++ replicate (79 - length (columnsOf J t n i)) 32) ≡ true
+body-visible J t n i =
+    every-append visible (columnsOf J t n i) (replicate (79 - length (columnsOf J t n i)) 32) (columns-visible J t n i)
+    (spaces-visible (79 - length (columnsOf J t n i)))

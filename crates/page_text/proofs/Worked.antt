@@ -10,12 +10,12 @@ use Rattle.job.specs.Written.{label}
 use Rattle.cells.specs.Calls.{Call, fresh, step, finish}
 use Rattle.cells.specs.Cases.{bytes, tableAfter, zeros, jobV}
 use Rattle.cells.proofs.Printed.{printed}
-use Rattle.page_text.specs.Page.{twoColumns, heading, cellMark, rowFront, rowCells, columnsOf, filledLine, pageLines, page}
+use Rattle.page_text.specs.Page.{twoColumns, heading, cellMark, rowFront, rowCells, columnsOf, filledLine, pageLine, pageLines, page}
 use Rattle.page_text.specs.PageCall.{overwritten, pageBuffer}
 
 -- The buffer that page of a node leaves, where so many bytes 7 are lent, behind these calls. To unfold it is to unfold all that it computes with.
 left : String → List Call → ℕ → ℕ → Text
-unfolding printed digitColumn decimal label twoColumns heading cellMark rowFront rowCells columnsOf filledLine pageLines page overwritten pageBuffer
+unfolding printed digitColumn decimal label twoColumns heading cellMark rowFront rowCells columnsOf filledLine pageLine pageLines page overwritten pageBuffer
 left j calls n room = pageBuffer (bytes j) (tableAfter (bytes j) (zeros (bytes j)) calls) n (replicate room 7)
 
 -- V behind the first step of node 0, case C7: "the first step of node 0 on V fills 4 and leaves subformula 2 empty".

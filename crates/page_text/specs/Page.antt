@@ -39,9 +39,12 @@ columnsOf J t n (suc s) = rowFront J s ++ rowCells J t n s
 unfoldable pub filledLine : Text → Text
 filledLine columns = columns ++ (replicate (79 - length columns) 32 ++ (10 ∷ []))
 
+unfoldable pub pageLine : Job → Table → ℕ → ℕ → Text
+pageLine J t n i = filledLine (columnsOf J t n i)
+
 -- "There are S + 1 lines".
 unfoldable pub pageLines : Job → Table → ℕ → List Text
-pageLines J t n = tab (λ i. filledLine (columnsOf J t n i)) (size J + 1)
+pageLines J t n = tab (pageLine J t n) (size J + 1)
 
 unfoldable pub page : Job → Table → ℕ → Text
 page J t n = flatten (pageLines J t n)

@@ -1,14 +1,14 @@
 -- The parts of a page as they are written one behind the other, and the lines that they make. Assumes nothing.
-use Prim.Native.Nat.{ℕ, zero, suc, _+_, _-_, _*_, _<_, _≤_}
+use Prim.Native.Nat.{ℕ, suc, _+_, _-_, _*_, _<_, _≤_}
 use mathlib.Core.Path.{_≡_, refl, sym, ap, ap₂, _∙_}
 use mathlib.Core.List.{List, [], _∷_, _++_}
 use native.Mathlib.Omega.{arith}
-use borrow.Author.Tests.{eq-eqb, eqb-true}
-use lib.ListN.{length, getD, replicate, length-append, length-replicate}
+use borrow.Author.Tests.{eq-eqb}
+use lib.ListN.{length, getD, replicate, length-replicate}
 use lib.Seq.{sets, length-sets}
-use Rattle.law.specs.Lists.{from, tab, flatten}
-use Rattle.law.proofs.Chunks.{chunks-length}
-use Rattle.law.proofs.Pieces.{written-behind, Written, written-start, written-next, written-end}
+use Rattle.law.specs.Lists.{tab, flatten}
+use Rattle.law.proofs.Lists.{tab-first}
+use Rattle.law.proofs.Pieces.{written-behind, Written, written-next, written-end}
 use Rattle.text.specs.Field.{Text}
 use Rattle.text.specs.Decimal.{digitColumn, decimal}
 use Rattle.job.specs.Job.{Job, size, subformulaCount, owner}
@@ -19,21 +19,11 @@ use Rattle.cells.proofs.Index.{index-lt}
 use Rattle.image.specs.Image.{jobOf}
 use Rattle.table.specs.Lent.{Ready, IsCell}
 use Rattle.table.proofs.CellLaws.{byte-small}
-use Rattle.page_text.specs.Page.{twoColumns, heading, cellMark, rowFront, rowCells, columnsOf, filledLine, pageLines, page}
-use Rattle.page_text.proofs.PageLaws.{line-long}
+use Rattle.page_text.specs.Page.{twoColumns, heading, cellMark, rowFront, rowCells, columnsOf, filledLine, pageLine, pageLines, page}
+use Rattle.page_text.proofs.PageLaws.{heading-length, row-length, line-long}
 
--- Spaces, one behind the other.
 abbrev pub space : ℕ → Text
 space i = 32 ∷ []
-
-spaces-from : (n i : ℕ) → flatten (from space i n) ≡ replicate n 32
-unfolding from flatten
-spaces-from zero i = refl
-spaces-from (suc n) i = ap (λ (l : Text). 32 ∷ l) (spaces-from n (suc i))
-
-pub spaces-are : (n : ℕ) → flatten (tab space n) ≡ replicate n 32
-unfolding tab
-spaces-are n = spaces-from n 0
 
 -- The end of a line, behind so many columns.
 pub end-written :
@@ -81,12 +71,10 @@ pub heading-written :
     → two ≡ sets one 15 (flatten (tab twoColumns count))
     → out ≡ sets two (0 + (15 + 2 * count)) (replicate (79 - (15 + 2 * count)) 32 ++ (10 ∷ []))
     → out ≡ sets was 0 (filledLine (heading count))
-unfolding heading twoColumns
+unfolding heading
 heading-written was one two out count a b c =
-    let numbers = flatten (tab twoColumns count) in
-    let long : length (heading count) ≡ 15 + 2 * count =
-    length-append (replicate 15 32) numbers ∙ ap (λ (m : ℕ). 15 + m) (chunks-length 2 twoColumns (λ k. refl) count) in
-    line-written was two out (heading count) 0 (15 + 2 * count) (written-behind was one two (replicate 15 32) numbers 0 15 a b refl) long c
+    line-written was two out (heading count) 0 (15 + 2 * count)
+    (written-behind was one two (replicate 15 32) (flatten (tab twoColumns count)) 0 15 a b refl) (heading-length count) c
 
 module _ (J : Job) (t : Table) (n s : ℕ) where
   -- The cells of a state, in the run of the table that they are.
@@ -134,19 +122,16 @@ module _ (J : Job) (t : Table) (n s : ℕ) where
       → three ≡ sets two (80 * s + 90) (decimal l)
       → four ≡ sets three (80 * s + 95) (rowCells J t n s)
       → out ≡ sets four (80 * s + 80 + (15 + 2 * count)) (replicate (79 - (15 + 2 * count)) 32 ++ (10 ∷ []))
-      → out ≡ sets was (80 * s + 80) (filledLine (columnsOf J t n (suc s)))
-  unfolding columnsOf rowFront rowCells decimal
+      → out ≡ sets was (80 * s + 80) (pageLine J t n (suc s))
+  unfolding pageLine columnsOf rowFront decimal
   row-written was one two three four out o l count o-is l-is count-is e f g h i =
       let a = 80 * s + 80 in
       let cells = rowCells J t n s in
       let two-is = written-behind one two three (decimal o) (decimal l) (80 * s + 85) (80 * s + 90) f g (omega arith) in
       let three-is = written-behind was one three (decimal s) (decimal o ++ decimal l) a (80 * s + 85) e two-is (omega arith) in
-      let front = decimal s ++ (decimal o ++ decimal l) in
-      let four-is = written-behind was three four front cells a (80 * s + 95) three-is h (omega arith) in
-      let long : length (front ++ cells) ≡ 15 + 2 * count =
-      length-append front cells ∙ ap (λ (m : ℕ). 15 + m) (chunks-length 2 cellOf (λ k. refl) (subformulaCount J) ∙ ap (λ (m : ℕ). 2 * m) (sym count-is)) in
-      line-written was four out (front ++ cells) a (15 + 2 * count) four-is long i
-      ∙ ap₂ (λ (p q : ℕ). sets was a (filledLine ((decimal s ++ (decimal p ++ decimal q)) ++ cells))) o-is l-is
+      let front-is : three ≡ sets was a (rowFront J s) = three-is ∙ ap₂ (λ (p q : ℕ). sets was a (decimal s ++ (decimal p ++ decimal q))) o-is l-is in
+      let four-is = written-behind was three four (rowFront J s) cells a (80 * s + 95) front-is h (omega arith) in
+      line-written was four out (rowFront J s ++ cells) a (15 + 2 * count) four-is (row-length J t n s ∙ ap (λ (k : ℕ). 15 + 2 * k) (sym count-is)) i
 
 -- A lent table: its cells are 0, 1 or 2, and those of a state lie in it.
 module _ (m : List ℕ) (t : Table) (ready : Ready m t) (n s k : ℕ) (n-in : n < jobOf m .nodes) (s-in : s < size (jobOf m)) (k-in : k < subformulaCount (jobOf m)) where
@@ -170,14 +155,9 @@ module _ (m : List ℕ) (t : Table) (ready : Ready m t) (n s k : ℕ) (n-in : n 
       (cell-low (jobOf m) t (formed-is (jobOf m) t (eq-eqb (length t) (tableLength (jobOf m)) (ready .lent .long)) (ready .right)) n s k)
 
 -- The lines, one behind the other: behind the heading, line s + 1 is that of state s.
-from-next : {A : Type 0} (f : ℕ → A) (n i : ℕ) → from f (suc i) n ≡ from (λ j. f (suc j)) i n
-unfolding from
-from-next f zero i = refl
-from-next f (suc n) i = ap (λ l. f (suc i) ∷ l) (from-next f n (suc i))
-
 module _ (J : Job) (t : Table) (n : ℕ) where
-  abbrev pub rowAt : ℕ → Text
-  rowAt s = filledLine (columnsOf J t n (suc s))
+  abbrev rowAt : ℕ → Text
+  rowAt s = pageLine J t n (suc s)
 
   abbrev pub RowsSoFar : Text → Text → ℕ → Type 0
   RowsSoFar was out s = Written 80 rowAt 80 was out (size J) s
@@ -194,15 +174,15 @@ module _ (J : Job) (t : Table) (n : ℕ) where
       → RowsSoFar first out s
       → size J ≤ s
       → out ≡ sets was 0 (page J t n)
-  unfolding page pageLines columnsOf tab from flatten
+  unfolding page pageLines pageLine columnsOf flatten
   page-written is was first out count s e w so-far l =
-      let top = filledLine (heading (subformulaCount J)) in
-      let first-is = w ∙ ap (λ (k : ℕ). sets was 0 (filledLine (heading k))) e in
+      let top = pageLine J t n 0 in
+      let first-is : first ≡ sets was 0 top = w ∙ ap (λ (k : ℕ). sets was 0 (filledLine (heading k))) e in
       let rows = written-end 80 rowAt 80 first (size J) out s so-far l in
-      let more : size J + 1 ≡ suc (size J) = omega arith in
+      let more : suc (size J) ≡ size J + 1 = omega arith in
       let long = line-long J t n is 0 in
-      written-behind was first out top (flatten (from rowAt 0 (size J))) 0 80 first-is rows (omega arith)
-      ∙ rw (more, from-next (λ i. filledLine (columnsOf J t n i)) (size J) 0)
+      written-behind was first out top (flatten (tab rowAt (size J))) 0 80 first-is rows (omega arith)
+      ∙ ap (λ ls. sets was 0 (flatten ls)) (sym (tab-first (pageLine J t n) (size J)) ∙ ap (tab (pageLine J t n)) more)
 
 -- There is room for the line of each state.
 pub row-fits :

@@ -1,24 +1,26 @@
 // One node's table written as a page into a lent buffer: the heading, and a line for each state. Each function writes its part of the page at its
-// place and leaves every other byte.
+// place and leaves every other byte. A line takes 80 bytes, so that of state s begins at 80 * s + 80: five columns for the state, five for its owner,
+// five for its label, then from 80 * s + 95 on two for each subformula, spaces up to column 79, and byte 10.
 ghost use mathlib.Core.Path.{_≡_};
 ghost use mathlib.Core.List.{[], _∷_, _++_};
 ghost use Prim.Native.Nat.{suc, _+_, _-_, _*_, _<_, _≤_};
 ghost use lib.ListN.{length, replicate};
 ghost use lib.Seq.{sets};
 ghost use Rattle.law.specs.Lists.{tab, flatten};
-ghost use Rattle.job.specs.Job.{size, subformulaCount};
+ghost use Rattle.job.specs.Job.{size};
 ghost use Rattle.image.specs.Image.{jobOf};
 ghost use Rattle.table.specs.Lent.{Ready};
-ghost use Rattle.page_text.specs.Page.{twoColumns, heading, cellMark, rowCells, columnsOf, filledLine, page};
+ghost use Rattle.page_text.specs.Page.{twoColumns, heading, cellMark, rowCells, filledLine, pageLine, page};
 use image::image::Image;
 use image::image::label;
 use image::image::owner;
 use image::image::states;
 use image::image::subformulas;
 use table::cell::cell_at;
-use text::decimal::digit;
+use text::decimal::digit_column;
 use text::decimal::write_field;
 
+// So many spaces.
 fn write_spaces(out: &mut [u8], at: usize, count: usize)
     requires { ⌜ at + count ≤ length (now out) ⌝ }
     ensures { λ _. ⌜ now (out .exit) ≡ sets (now (out .entry)) at (replicate count 32) ⌝ }
@@ -28,6 +30,7 @@ fn write_spaces(out: &mut [u8], at: usize, count: usize)
     }
 }
 
+// Two bytes, as each subformula takes them.
 fn write_two(out: &mut [u8], at: usize, left: u8, right: u8)
     requires { ⌜ at + 2 ≤ length (now out) ⌝ }
     ensures { λ _. ⌜ now (out .exit) ≡ sets (now (out .entry)) at (left ∷ right ∷ []) ⌝ }
@@ -51,10 +54,11 @@ fn write_numbers(out: &mut [u8], at: usize, count: usize)
     ensures { λ _. ⌜ now (out .exit) ≡ sets (now (out .entry)) at (flatten (tab twoColumns count)) ⌝ }
 {
     for k in 0..count {
-        write_two(out, at + 2 * k, digit(k, 10), digit(k, 1));
+        write_two(out, at + 2 * k, digit_column(k, 10), digit_column(k, 1));
     }
 }
 
+// The first line: spaces above state, owner and label, and the numbers.
 fn write_heading(out: &mut [u8], count: usize)
     requires { ⌜ (count ≤ 32) × (80 ≤ length (now out)) ⌝ }
     ensures { λ _. ⌜ now (out .exit) ≡ sets (now (out .entry)) 0 (filledLine (heading count)) ⌝ }
@@ -94,7 +98,7 @@ fn write_row(m: &Image, table: &[u8], n: usize, s: usize, out: &mut [u8])
     requires { ⌜ (n < jobOf (now m) .nodes) × (s < size (jobOf (now m))) × (80 * s + 160 ≤ length (now out)) ⌝ }
     ensures { λ _. ⌜
         now (out .exit)
-        ≡ sets (now (out .entry)) (80 * s + 80) (filledLine (columnsOf (jobOf (now (m .entry))) (now (table .entry)) n (suc s)))
+        ≡ sets (now (out .entry)) (80 * s + 80) (pageLine (jobOf (now (m .entry))) (now (table .entry)) n (suc s))
         ⌝ }
 {
     write_field(out, 80 * s + 80, s);

@@ -20,7 +20,7 @@ use Rattle.job.proofs.QuestionLaws as question
 use Rattle.cells.specs.Table.{Table, tableLength}
 use Rattle.cells.specs.Close as closing
 use Rattle.cells.specs.Questions.{tableSize, tableCells, nodeBelow, numbersBelow, truthValue, tableSettled, someOwnerEmpty}
-use Rattle.cells.specs.Calls.{Call, fresh, step, offer, accept, close, finish, ownQuestions, questions, width, told, left, answer, after}
+use Rattle.cells.specs.Calls.{Call, fresh, step, offer, accept, close, finish, page, ownQuestions, questions, width, told, left, answer, after}
 use Rattle.promises.specs.Contracts.{Loan, Happens}
 use Rattle.promises.specs.Demand1.{AnswersBy, reads, refuses}
 use Rattle.cells.proofs.CallLaws.{numbers-in}
@@ -116,6 +116,10 @@ module _ (x : Text) (t : Table) where
   pub step-formed : (n : ℕ) → Taken (step n) x t → Formed (decode x) t
   unfolding ownQuestions
   step-formed n = asked-formed (step n) _ refl
+
+  pub page-formed : (n room : ℕ) → Taken (page n room) x t → Formed (decode x) t
+  unfolding ownQuestions
+  page-formed n room = asked-formed (page n room) _ refl
 
   pub close-formed : Taken close x t → Formed (decode x) t
   unfolding ownQuestions

@@ -1,8 +1,8 @@
 -- The hypotheses of demand 3 and of requests (ii), (iii) and (v) can be met: every list of calls can be made, every accepted text has a table
 -- fresh for it, one machine has two cuttings, and there is a list with a message in it: on case C2 node 1 steps and offers what it knows of
 -- its border state, node 0 accepts it, accepts it again, and node 1 and an empty text are refused; a look without a node is accepted there;
--- there are jobs with EG and with AG, and a list on a ring with EG in which a close fills 1; pages are written and refused between the steps of a
--- list, and two pages of one node, before and after a step. Assumes nothing.
+-- there are jobs with EG and with AG, and a list on a ring with EG in which a close fills 1; there is a list with pages, accepted and refused, and
+-- before and after a step a node has two pages, whose cells differ. Assumes nothing.
 use Prim.Native.Nat.{ℕ}
 use Prim.Native.String.{String}
 use mathlib.Core.Path.{_≡_, refl, sym, _∙_, ap, subst}
@@ -10,6 +10,7 @@ use mathlib.Core.Bool.{Bool, true, false, true≢false}
 use mathlib.Core.List.{List, [], _∷_, List·Memᴰ, List·Memᴰ·head}
 use lib.ListN.{length, length-replicate}
 use lib.Dec.{lit≤}
+use native.Mathlib.Omega.{arith}
 use Rattle.text.specs.Field.{Text}
 use Rattle.job.specs.Job.{decode, subformula}
 use Rattle.job.specs.declared.subformula.Subformula.the-variants.{Eg, Ag}
@@ -26,6 +27,7 @@ use Rattle.page_text.specs.PageCall.{pageBuffer}
 use Rattle.promises.specs.Contracts.{Loan, Happens, Pages}
 use Rattle.promises.specs.Demand3.{Event, Happened, Message, handedOut, isRefused, isMeant, Meant, FreshFor, ListOfCalls, callsOf, OneMachine}
 use Rattle.promises.specs.AllAlong.{HasLine}
+use Rattle.promises.specs.OnPaper.{SameCells}
 use Rattle.promises.proofs.Contracts.{may-happen}
 
 -- some references
@@ -233,11 +235,29 @@ pub page-example :
 unfolding printed page-calls of-job start page-events played listed Accepted
 page-example = (listed (bytes jobV) refl page-calls page-meant, refl)
 
--- An accepted page, of any buffer that is long enough.
+-- Pages before and after the step, into any buffer of 240 bytes.
+written-page :
+    (t : Table) → answer (page 0 240) (bytes jobV) t ≡ accepted [] → (b : List ℕ) → length b ≡ 240 → (w : List ℕ) × Pages lent (bytes jobV) t 0 b (accepted []) w
+written-page t told-is b long =
+    let x = bytes jobV in (
+      pageBuffer x t 0 b,
+      subst (λ a. Pages lent x t 0 b a (pageBuffer x t 0 b)) (ap (λ k. answer (page 0 k) x t) long ∙ told-is) (may-happen lent x .page-buffer t 0 b),
+    )
+
+stepped : Table
+stepped = after (step 0) (bytes jobV) (start (bytes jobV))
+
 pub paged :
-    (t : Table) × ((b : List ℕ) → length b ≡ 240 → (w : List ℕ) × Pages lent (bytes jobV) t 0 b (accepted []) w)
-unfolding printed start
-paged =
-    let x = bytes jobV in
-    let t = start x in
-    (t, λ b long. (pageBuffer x t 0 b, subst (λ a. Pages lent x t 0 b a (pageBuffer x t 0 b)) (ap (λ k. answer (page 0 k) x t) long) (may-happen lent x .page-buffer t 0 b)))
+    (t : Table)
+    × (u : Table)
+    × ((b : List ℕ) → length b ≡ 240 → (w : List ℕ) × Pages lent (bytes jobV) t 0 b (accepted []) w)
+    × ((b : List ℕ) → length b ≡ 240 → (w : List ℕ) × Pages lent (bytes jobV) u 0 b (accepted []) w)
+    × (SameCells (decode (bytes jobV)) 0 t u → ⊥)
+unfolding printed start stepped
+paged = (
+  start (bytes jobV),
+  stepped,
+  written-page (start (bytes jobV)) refl,
+  written-page stepped refl,
+  λ same. let wrong : _≡_ {A = ℕ} 2 1 = same 0 0 (lit≤ tt) (lit≤ tt) in omega arith,
+)

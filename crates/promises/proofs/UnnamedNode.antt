@@ -19,7 +19,7 @@ use Rattle.job.proofs.Exact.{decode-is-job}
 use Rattle.job.proofs.QuestionLaws.{some-not-none, by-refusal, refusal-yes, refusal-no, refusal-last, refusal-behind, refusal-has, all-answered-yes, answered-none, answered-some, accepted-own, refused-not-accepted}
 use Rattle.cells.specs.Table.{Table, ownerCell}
 use Rattle.cells.specs.Questions.{tableSize, tableCells, nodeBelow, nodeOr255, numbersBelow, stateInFragment}
-use Rattle.cells.specs.Calls.{Call, step, accept, look, nodeRead, ownQuestions, questions, width, told, answer}
+use Rattle.cells.specs.Calls.{Call, step, accept, look, page, nodeRead, ownQuestions, questions, width, told, answer}
 use Rattle.cells.proofs.CallLaws.{numbers-in}
 use Rattle.cells.proofs.FragmentLaws.{owns-intro, owned-inside}
 use Rattle.promises.specs.Contracts.{Loan, Happens}
@@ -147,20 +147,29 @@ module _ (x : Text) (t : Table) where
       some-not-none (ofCall 11 false) (sym (refusal-no (ofCall 11 false) [] refl) ∙ refusal-last (front x t) node own)
 
   module _ (l : Loan) (a : Answer) (u : Table) where
-    node-refused : (c : Call) → width c ≡ 1 → refusal (questions c x t) ≡ refusal (unknownNodeQuestions x t) → Happens l x c t a u → AnswersBy (unknownNodeQuestions x t) 1 [] a
+    node-refused :
+        (c : Call) (others : ℕ)
+        → width c ≡ others
+        → refusal (questions c x t) ≡ refusal (unknownNodeQuestions x t)
+        → Happens l x c t a u
+        → AnswersBy (unknownNodeQuestions x t) others [] a
     unfolding answer
-    node-refused c one same happens =
+    node-refused c others wide same happens =
         by-refusal (unknownNodeQuestions x t) (λ none. absurd (always-refused none))
         (λ q e.
         refuses q e
         (happens-defined l x c t a u happens .0
         ∙ answered-some (questions c x t) (width c) (told c (decode x) t) q (same ∙ e)
-        ∙ ap (refused (q .number) (q .line)) one))
+        ∙ ap (refused (q .number) (q .line)) wide))
 
     pub happens-step-255 : Happens l x (step 255) t a u → AnswersBy (unknownNodeQuestions x t) 1 [] a
     unfolding questions ownQuestions width
-    happens-step-255 = node-refused (step 255) refl (node-asked [])
+    happens-step-255 = node-refused (step 255) 1 refl (node-asked [])
 
     pub happens-accept-255 : (s k v : ℕ) → Happens l x (accept 255 s k v) t a u → AnswersBy (unknownNodeQuestions x t) 1 [] a
     unfolding questions ownQuestions width
-    happens-accept-255 s k v = node-refused (accept 255 s k v) refl (node-asked _)
+    happens-accept-255 s k v = node-refused (accept 255 s k v) 1 refl (node-asked _)
+
+    pub happens-page-255 : (room : ℕ) → Happens l x (page 255 room) t a u → AnswersBy (unknownNodeQuestions x t) 0 [] a
+    unfolding questions ownQuestions width
+    happens-page-255 room = node-refused (page 255 room) 0 refl (node-asked _)

@@ -1,5 +1,5 @@
--- The contracts of the calls, of rule and of what `verdict`, `rule` and `page` print, as statements about what is passed and what comes of it. `Learnt` of a
--- function is what its `ensures` clauses promise a caller, `Asked` what its `requires` clauses ask, as the toolchain reads them off the
+-- The contracts of the calls, of rule and of what `verdict`, `rule` and `page` print, as statements about what is passed and what comes of it.
+-- `Learnt` of a function is what its `ensures` clauses promise a caller, `Asked` what its `requires` clauses ask, as the toolchain reads them off the
 -- source: of the lifetimes, the arguments, the result, and the arguments at exit. Assumes nothing.
 use Prim.Native.Nat.{ℕ}
 use mathlib.Core.Path.{_≡_}
@@ -79,8 +79,8 @@ module _ (l : Loan) (x : Text) where
       × (pageTold r ≡ a)
       × paging.Learnt (l .lifetimes) (text, (table t, (n, (buffer b, tt)))) r (text, (table t, (n, (buffer w, tt))))
 
-  -- The call with text x and table t may answer a and leave table u: the contract of its function holds of these. What is lent to
-  -- offer, look and page can only be read, so it stays; page writes a buffer of so many bytes, of any content.
+  -- The call with text x and table t may answer a and leave table u: the contract of its function holds of these. The table that offer,
+  -- look and page are lent can only be read, so it stays; page writes a buffer of so many bytes, of any content.
   unfoldable pub Happens : Call → Table → Answer → Table → Type 0
   Happens fresh t a u =
       (r : Cleared)
@@ -140,7 +140,7 @@ module _ (l : Loan) (x : Text) where
       × (take (r .length) (r .bytes) ≡ said)
       × outputting.Learnt one (text, tt) r (text, tt)
 
-  -- the program page may print these bytes of its argument and its input, x
+  -- the program page may print these bytes of its argument, which is lent as a buffer is, and its input, x
   unfoldable pub PrintsPage : List ℕ → List ℕ → Type 0
   PrintsPage argument said =
       (r : printedPage.Output)

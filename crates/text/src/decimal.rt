@@ -6,7 +6,7 @@ ghost use lib.Seq.{sets};
 ghost use Rattle.text.specs.Decimal.{digitColumn, decimal, line, Short};
 
 // The byte in the column of weight p: a space before the number, or its digit.
-pub fn digit(n: usize, p: usize) -> u8
+pub fn digit_column(n: usize, p: usize) -> u8
     requires { ⌜ (0 < p) × (n < 100000) ⌝ }
     ensures { λ r. ⌜ r ≡ digitColumn n p ⌝ }
 {
@@ -24,11 +24,11 @@ pub fn write_field(out: &mut [u8], at: usize, n: usize)
     requires { ⌜ (n < 100000) × (at + 5 ≤ length (now out)) ⌝ }
     ensures { λ _. ⌜ now (out .exit) ≡ sets (now (out .entry)) at (decimal n) ⌝ }
 {
-    out[at] = digit(n, 10000);
-    out[at + 1] = digit(n, 1000);
-    out[at + 2] = digit(n, 100);
-    out[at + 3] = digit(n, 10);
-    out[at + 4] = digit(n, 1);
+    out[at] = digit_column(n, 10000);
+    out[at + 1] = digit_column(n, 1000);
+    out[at + 2] = digit_column(n, 100);
+    out[at + 3] = digit_column(n, 10);
+    out[at + 4] = digit_column(n, 1);
 }
 
 // Writes a line of numbers at `at`: their fields, and byte 10.

@@ -16,6 +16,7 @@ use Rattle.job.specs.Read.{header, readAnswer}
 use Rattle.job.specs.Job.{Job, decode, size}
 use Rattle.job.specs.Written.{IsJob}
 use Rattle.job.proofs.QuestionLaws.{accepted-none}
+use Rattle.job.proofs.SmallLaws.{refused-small}
 use Rattle.job.proofs.Exact.{decode-is-job}
 use Rattle.cells.specs.Table.{Table, tableLength, freshTable, filled, emptyCells}
 use Rattle.cells.specs.Finish.{finish, verdict}
@@ -25,7 +26,6 @@ use Rattle.cells.proofs.Formed.{Formed, is-formed, freshTable-formed}
 use Rattle.cells.proofs.Finish.{finish-rounds, finish-cells}
 use Rattle.cells.proofs.Verdict.{verdict-filled}
 use Rattle.cells.proofs.CallLaws.{text-refused, own-accepted}
-use Rattle.from_fresh.proofs.SmallLaws.{refused-small}
 
 -- finish on a fresh table of an accepted text
 module _ (x : Text) (own : List ℕ) (read : accepted own ≡ readAnswer x) where

@@ -1,14 +1,13 @@
 -- `page_output`: the page of the table that finish leaves, or the numbers of the refusal.
 use Prim.Native.Nat.{_-_}
-use mathlib.Core.Path.{_≡_, refl, sym, ap, _∙_}
+use mathlib.Core.Path.{_≡_, sym, ap, _∙_}
 use native.Mathlib.Nat.{sub-zero}
-use lib.ListN.{take, replicate, length-replicate}
+use lib.ListN.{take, replicate}
 use Rattle.cells.specs.Table.{Table}
 use Rattle.cells.specs.Calls.{finish, after}
 use Rattle.calls.specs.Told.{pageTold}
 use Rattle.page_output.proofs.OutputLaws.{numbers-short, said-is, page-said, refusal-said}
 use borrow.Author.Needs.{needs}
-use native.Mathlib.Omega.{arith}
 use Rattle.page_output.proofs.page_output.Statement.{statement}
 use Rattle.page_output.proofs.page_output.Tie as tie
 

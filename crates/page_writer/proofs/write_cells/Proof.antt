@@ -1,6 +1,5 @@
 -- `write_cells`: a cell more, behind those written.
 use Prim.Native.Nat.{_-_}
-use mathlib.Core.Path.{_≡_}
 use Rattle.law.proofs.Pieces.{written-start}
 use Rattle.image.specs.Image.{jobOf}
 use Rattle.page_writer.proofs.PartLaws.{CellsSoFar, cells-turn, cells-over, run-inside, run-small, run-low}

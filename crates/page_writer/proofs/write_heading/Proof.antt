@@ -5,7 +5,11 @@ use Rattle.page_writer.proofs.write_heading.Statement.{statement}
 use Rattle.page_writer.proofs.write_heading.Tie as tie
 
 returns : tie.Need-returns
-returns c = heading-written _ _ _ _ _ (c .before .before .before .before .before .before .before .before .before .before .write-spaces .ensures) (c .before .before .before .before .before .before .write-numbers .ensures) (c .before .before .end-line .ensures)
+returns c =
+    let ended = c .before .before in
+    let numbered = ended .before .before .before .before in
+    let spaced = numbered .before .before .before .before in
+    heading-written _ _ _ _ _ (spaced .write-spaces .ensures) (numbered .write-numbers .ensures) (ended .end-line .ensures)
 
 pub write-heading-spec : {M : Type 1} → statement M
 write-heading-spec =

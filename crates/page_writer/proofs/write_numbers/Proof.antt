@@ -15,11 +15,11 @@ Inv-loop out₀ at count k₀ out k = Written 2 twoColumns at out₀ out count k
 abbrev μ-loop : tie.MeasureT-loop
 μ-loop out₀ at count k₀ out k = count - k
 
-digit-requires : tie.Need-digit-requires Inv-loop μ-loop
-digit-requires c κs = (lit< tt, omega arith)
+digit-column-requires : tie.Need-digit-column-requires Inv-loop μ-loop
+digit-column-requires c κs = (lit< tt, omega arith)
 
-digit-requires-2 : tie.Need-digit-requires-2 Inv-loop μ-loop
-digit-requires-2 c κs = (lit< tt, omega arith)
+digit-column-requires-2 : tie.Need-digit-column-requires-2 Inv-loop μ-loop
+digit-column-requires-2 c κs = (lit< tt, omega arith)
 
 write-two-requires : tie.Need-write-two-requires Inv-loop μ-loop
 write-two-requires c κs = let l = c .before .before .before .before .loop in omega (arith, l .inv .long)
@@ -27,13 +27,13 @@ write-two-requires c κs = let l = c .before .before .before .before .loop in om
 loop-again : tie.Need-loop-again Inv-loop μ-loop
 loop-again c =
     let l = c .before .before .before .before .before .before .before .loop in
-    numbers-turn _ (l .out) _ _ _ (l .k) _ _ (l .inv) (search needs) (c .before .before .before .before .digit .ensures)
-    (c .before .before .before .digit2 .ensures) (c .before .before .write-two .ensures)
+    numbers-turn _ (l .out) _ _ _ (l .k) _ _ (l .inv) (search needs) (c .before .before .before .before .digit-column .ensures)
+    (c .before .before .before .digit-column2 .ensures) (c .before .before .write-two .ensures)
 
 returns : tie.Need-returns Inv-loop μ-loop
 returns c = written-end 2 twoColumns _ _ _ _ _ (c .before .loop .inv) (search needs)
 
 pub write-numbers-spec : {M : Type 1} → statement M
 write-numbers-spec =
-    let first = tie.spec Inv-loop μ-loop (λ c. written-start 2 twoColumns _ _ _) (λ c. search needs) (λ c. search needs) digit-requires digit-requires-2 in
+    let first = tie.spec Inv-loop μ-loop (λ c. written-start 2 twoColumns _ _ _) (λ c. search needs) (λ c. search needs) digit-column-requires digit-column-requires-2 in
     tie.close (first write-two-requires (λ c. search needs) (λ c. search needs) loop-again (λ c. search needs) returns)

@@ -5,7 +5,6 @@ use Rattle.job.specs.Job.{size}
 use Rattle.image.specs.Image.{jobOf}
 use Rattle.page_writer.proofs.PartLaws.{RowsSoFar, rows-turn, page-written, row-fits}
 use borrow.Author.Needs.{needs}
-use native.Mathlib.Omega.{arith}
 use Rattle.page_writer.proofs.write_page.Statement.{statement}
 use Rattle.page_writer.proofs.write_page.Tie as tie
 
@@ -38,7 +37,9 @@ returns : tie.Need-returns Inv-loop μ-loop
 returns c =
     let l = c .before in
     let headed = l .before .before .before .before in
-    page-written _ _ _ (headed .before .before .before .before .before .pre .0 .lent .image .is-job) _ _ _ _ _ (headed .before .subformulas .ensures .0) (headed .write-heading .ensures) (l .loop .inv) (search needs)
+    let start = headed .before .before .before .before .before in
+    page-written _ _ _ (start .pre .0 .lent .image .is-job) _ _ _ _ _ (headed .before .subformulas .ensures .0) (headed .write-heading .ensures)
+    (l .loop .inv) (search needs)
 
 pub write-page-spec : {M : Type 1} → statement M
 write-page-spec =

@@ -2,8 +2,9 @@
 use Prim.Native.Nat.{_-_}
 use mathlib.Core.Path.{refl, ap, _∙_}
 use lib.Seq.{sets}
+use Rattle.law.proofs.Chunks.{chunks-replicate}
 use Rattle.law.proofs.Pieces.{Written, written-start, written-next, written-end}
-use Rattle.page_writer.proofs.PartLaws.{space, spaces-are}
+use Rattle.page_writer.proofs.PartLaws.{space}
 use borrow.Author.Needs.{needs}
 use native.Mathlib.Omega.{arith}
 use Rattle.page_writer.proofs.write_spaces.Statement.{statement}
@@ -24,7 +25,7 @@ loop-again c =
     written-next 1 space _ _ _ (l .out) (l .i) (l .inv) _ _ (search needs) refl (search needs) refl
 
 returns : tie.Need-returns Inv-loop μ-loop
-returns c = written-end 1 space _ _ _ _ _ (c .before .loop .inv) (search needs) ∙ ap (sets _ _) (spaces-are _)
+returns c = written-end 1 space _ _ _ _ _ (c .before .loop .inv) (search needs) ∙ ap (sets _ _) (chunks-replicate 32 _)
 
 pub write-spaces-spec : {M : Type 1} → statement M
 write-spaces-spec =

@@ -8,7 +8,7 @@ use Rattle.job.specs.Answer.{numbers}
 use Rattle.cells.specs.Table.{tableLength}
 use Rattle.cells.specs.Calls.{finish, answer}
 use Rattle.verdict_line.specs.VerdictLine.{verdictLine}
-use Rattle.from_fresh.proofs.TableLaws.{any-table}
+use Rattle.cells.proofs.CallLaws.{any-table}
 use Rattle.verdict_line.proofs.ShortLaws.{answer-short}
 use borrow.Author.Needs.{needs}
 use Rattle.verdict_line.proofs.verdict_line.Statement.{statement}

@@ -24,11 +24,11 @@ returns : tie.Need-returns
 unfolding decimal
 returns c =
     simp (
-      c .before .before .before .before .digit .ensures,
-      c .before .before .before .digit2 .ensures,
-      c .before .before .digit3 .ensures,
-      c .before .digit4 .ensures,
-      c .digit5 .ensures,
+      c .before .before .before .before .digit-column .ensures,
+      c .before .before .before .digit-column2 .ensures,
+      c .before .before .digit-column3 .ensures,
+      c .before .digit-column4 .ensures,
+      c .digit-column5 .ensures,
       towards-suc,
     )
 

@@ -1,4 +1,4 @@
--- `digit`: its tests are those of `column`.
+-- `digit_column`: its tests are those of `digitColumn`.
 use Prim.Native.Nat.{_+_, _/_, _%_}
 use mathlib.Core.Path.{sym}
 use borrow.Author.Tests.{lt-ltb, le-ltb, eq-eqb, ne-eqb}
@@ -7,8 +7,8 @@ use mathlib.Core.Bool.{not, _&&_}
 use Rattle.law.proofs.Bool.{and-no-right, not-is-false, cond-false}
 use Rattle.text.specs.Decimal.{digitColumn}
 use borrow.Author.Needs.{needs}
-use Rattle.text.proofs.decimal.digit.Statement.{statement}
-use Rattle.text.proofs.decimal.digit.Tie as tie
+use Rattle.text.proofs.decimal.digit_column.Statement.{statement}
+use Rattle.text.proofs.decimal.digit_column.Tie as tie
 
 returns : tie.Need-returns
 unfolding digitColumn
@@ -26,7 +26,7 @@ returns-3 : tie.Need-returns-3
 unfolding digitColumn
 returns-3 c = simp (le-ltb _ _ (c .if2 .left))
 
-pub digit-spec : {M : Type 1} → statement M
-digit-spec =
+pub digit-column-spec : {M : Type 1} → statement M
+digit-column-spec =
     let first = tie.spec (λ c. search needs) (λ c. search needs) (λ c. search needs) returns returns-2 (λ c. search needs) (λ c. search needs) in
     tie.close (first (λ c. search needs) returns-3)
