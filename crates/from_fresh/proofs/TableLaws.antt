@@ -6,7 +6,6 @@ use native.Mathlib.Omega.{arith}
 use lib.ListN.{length, length-replicate, replicate, take}
 use lib.Seq.{take-at}
 use Rattle.text.specs.Field.{Text}
-use Rattle.job.specs.Layout.{states, subformulas, nodes}
 use Rattle.job.specs.Job.{decode}
 use Rattle.job.specs.Answer.{accepted}
 use Rattle.job.specs.Read.{readAnswer, readTold, headAnswer}
@@ -20,18 +19,23 @@ use Rattle.cells.specs.Table.{Table, tableLength}
 use Rattle.cells.specs.Finish.{finish}
 use Rattle.cells.specs.Calls.{Call, questions, left, after}
 use Rattle.cells.proofs.Grown.{finish-grown}
+use Rattle.from_fresh.specs.LineOne.{LineOne}
 
--- line 1 is accepted: its numbers give the table's length
+-- line 1 is accepted: its numbers are the job's
 module _ (x : Text) (h : Header) (told : readTold (Accepted h) ≡ headAnswer x) where
-  pub head-small : (h .nodes * h .states ≤ 2048) × (h .nodes * h .states * h .subformulas ≤ 65536)
-  head-small = product-small x h (head-fits x h told)
-
-  pub head-length : h .nodes * h .states * h .subformulas ≡ tableLength (decode x)
+  pub head-numbers : LineOne x h
   unfolding tableLength
-  head-length =
+  head-numbers =
       let fits = head-fits x h told in
       let (nodes-are, states-are, subformulas-are) = decode-length x in
-      sym (ap₂ _*_ (ap₂ _*_ (nodes-are ∙ fits .nodes-are) (states-are ∙ fits .states-are)) (subformulas-are ∙ fits .subformulas-are))
+      let size-is = states-are ∙ fits .states-are in
+      let (rows, cells) = product-small x h fits in
+      record {
+        states-few = fits .states-to;
+        rows-few = rows;
+        cells-few = cells;
+        right = λ own read. (sym size-is, sym (ap₂ _*_ (ap₂ _*_ (nodes-are ∙ fits .nodes-are) size-is) (subformulas-are ∙ fits .subformulas-are)));
+      }
 
 -- line 1 is refused: the text is not accepted
 pub size-refused :

@@ -1,1 +1,2 @@
+pub mod LineOne
 pub mod TableSize

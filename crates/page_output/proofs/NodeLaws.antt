@@ -1,18 +1,12 @@
--- The node that an argument names, by its length and its byte; and the bytes of a text's page, by line 1 alone. Assumes nothing.
-use Prim.Native.Nat.{ℕ, _+_, _-_, _*_, _≤_}
-use mathlib.Core.Path.{_≡_, refl, sym, ap, _∙_}
+-- The node that an argument names, by its length and its byte. Assumes nothing.
+use Prim.Native.Nat.{ℕ, _-_}
+use mathlib.Core.Path.{_≡_, refl}
 use mathlib.Core.Bool.{true, false}
 use mathlib.Core.List.{List, [], _∷_}
 use native.Mathlib.Omega.{arith}
 use lib.ListN.{length, getD}
 use Rattle.law.proofs.Bool.{cond-true, cond-false}
-use Rattle.text.specs.Field.{Text, isDigit}
-use Rattle.job.specs.Job.{size, decode}
-use Rattle.job.specs.Read.{readTold, headAnswer}
-use Rattle.job.specs.declared.reading.Header.{Header}
-use Rattle.job.specs.declared.reading.Reading.the-variants.{Accepted}
-use Rattle.job.proofs.LayoutLaws.{head-fits}
-use Rattle.job.proofs.ReadLaws.{decode-length}
+use Rattle.text.specs.Field.{isDigit}
 use Rattle.page_output.specs.PageOutput.{nodeNamed}
 
 pub other-length : (argument : List ℕ) → (length argument ≡ 1 → ⊥) → nodeNamed argument ≡ 255
@@ -32,9 +26,3 @@ unfolding nodeNamed
 a-digit [] one e = absurd (omega arith)
 a-digit (c ∷ []) one e = cond-true (isDigit c) (c - 48) 255 e
 a-digit (c ∷ d ∷ more) one e = absurd (omega arith)
-
-pub head-page : (x : Text) (h : Header) → readTold (Accepted h) ≡ headAnswer x → (h .states ≤ 256) × (80 * (h .states + 1) ≡ 80 * (size (decode x) + 1))
-head-page x h told =
-    let fits = head-fits x h told in
-    let (nodes-are, states-are, subformulas-are) = decode-length x in
-    (fits .states-to, ap (λ (s : ℕ). 80 * (s + 1)) (sym (states-are ∙ fits .states-are)))

@@ -7,9 +7,8 @@ ghost use Rattle.page_output.specs.PageSize.{PageSize};
 use calls::page::Paged;
 use calls::page::page;
 use from_fresh::finish_fresh;
+use from_fresh::line_one;
 use from_fresh::table_size;
-use job::reading::Reading;
-use layout::head::head;
 use text::decimal::write_line;
 use text::field::digit;
 use text::field::is_digit;
@@ -37,14 +36,11 @@ fn node_named(argument: &[u8]) -> usize
     digit(c)
 }
 
-// How many bytes the page for a text has, if the text is accepted: by line 1 alone.
+// How many bytes the page for a text has, if the text is accepted.
 fn page_size(text: &[u8]) -> usize
     ensures { λ r. ⌜ PageSize (now (text .entry)) r ⌝ }
 {
-    let reading = head(text);
-    let Reading::Accepted(h) = reading else {
-        return 0;
-    };
+    let h = line_one(text);
     80 * (h.states + 1)
 }
 
