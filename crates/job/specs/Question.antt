@@ -2,7 +2,7 @@
 -- number beside it." "A refusal gives its number, the line for 1 to 8 (else 0), and 0 in every other number; the table and any other
 -- lent bytes stay. An accepted call gives number 0." Assumes nothing.
 use Rattle.std.specs.Prelude.{ℕ, Bool, cond, ◌&&◌, List, [], ◌∷◌, ltb, eqb}
-use Rattle.std.proofs.Math.Option.{Option, Option·elim}
+use Rattle.std.proofs.Math.Option.{Option, Option-elim}
 use Rattle.std.proofs.Math.Option as opt
 use Rattle.law.specs.Lists.{every}
 use Rattle.job.specs.Answer.{Answer, accepted, refused}
@@ -32,12 +32,12 @@ refusal (q ∷ qs) = let later = refusal qs in cond q.test later (opt.some q)
 
 -- Its number, 0 where there is none.
 unfoldable pub no_number : List Question → ℕ
-no_number qs = Option·elim (refusal qs) 0 (λ q. q.number)
+no_number qs = Option-elim (refusal qs) 0 (λ q. q.number)
 
 -- The answer of a call that puts these questions: its own numbers, or the refusal, with so many zeros in their place.
 unfoldable pub answered : List Question → ℕ → List ℕ → Answer
-answered qs others own = Option·elim (refusal qs) (accepted own) (λ q. refused q.number q.line others)
+answered qs others own = Option-elim (refusal qs) (accepted own) (λ q. refused q.number q.line others)
 
 -- What was lent, afterwards: as it was before where a question is answered no, else as the call makes it.
 unfoldable pub afterwards : {A : Type 0} → List Question → A → A → A
-afterwards qs before made = Option·elim (refusal qs) made (λ q. before)
+afterwards qs before made = Option-elim (refusal qs) made (λ q. before)

@@ -1,7 +1,7 @@
 // The reader's answer.
 
 // The numbers of line 1.
-#[derive(Drop)]
+#[derive(Clone, Copy)]
 pub struct Header {
     pub states: usize,
     pub edges: usize,
@@ -10,13 +10,13 @@ pub struct Header {
 }
 
 // The number of the first question that is answered no, and the line that it is about, 0 for none.
-#[derive(Drop)]
+#[derive(Clone, Copy)]
 pub struct Refusal {
     pub number: u8,
     pub line: usize,
 }
 
-#[derive(Drop)]
+#[derive(Clone, Copy)]
 pub enum Reading {
     Accepted(Header),
     Refused(Refusal),

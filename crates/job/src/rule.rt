@@ -5,14 +5,14 @@ ghost use Rattle.job.specs.Rule.{rule_of, temporal, closed_value};
 use crate::subformula::Subformula;
 
 // What is asked of a state: nothing, or that an operand is true there, or that it is false.
-#[derive(Drop)]
+#[derive(Clone, Copy)]
 pub enum Condition {
     Always,
     Holds(usize),
     Fails(usize),
 }
 
-#[derive(Drop)]
+#[derive(Clone, Copy)]
 pub enum Rule {
     // The atom's number: true where the label has it.
     Atom(usize),

@@ -3,7 +3,7 @@ ghost use Rattle.std.specs.Prelude.{◌≡◌};
 ghost use Rattle.job.specs.Formula.{atomic, unary, binary, parsed};
 
 // A subformula by its kind, with the numbers of its operands.
-#[derive(Drop)]
+#[derive(Clone, Copy)]
 pub enum Subformula {
     Atom(usize),
     Not(usize),
@@ -17,7 +17,7 @@ pub enum Subformula {
 }
 
 // A subformula line, read.
-#[derive(Drop)]
+#[derive(Clone, Copy)]
 pub enum Parsed {
     Formula(Subformula),
     Malformed,

@@ -4,7 +4,7 @@ ghost use Rattle.std.proofs.Math.Seq.{slice};
 ghost use Rattle.text.specs.Field.{is_digit, digits, field, number_at, formed};
 ghost use Rattle.text.specs.Leaves.{Skipped};
 
-#[derive(Drop)]
+#[derive(Clone, Copy)]
 pub enum Field {
     Number(usize),
     Malformed,

@@ -5,14 +5,14 @@ ghost use Rattle.text.specs.Fields.{pair, triple};
 use crate::field::{Field, read_field};
 
 // A line of two fields, a state's or an edge's.
-#[derive(Drop)]
+#[derive(Clone, Copy)]
 pub enum Pair {
     Numbers(usize, usize),
     Malformed,
 }
 
 // A line of three fields, a subformula's.
-#[derive(Drop)]
+#[derive(Clone, Copy)]
 pub enum Triple {
     Numbers(usize, usize, usize),
     Malformed,
