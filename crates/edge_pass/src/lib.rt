@@ -1,5 +1,7 @@
 // One walk over the edge lines, for questions 6 and 7: what is kept after an edge line, as a function of what was kept before and of that line's
 // two numbers alone, and what both questions are answered from when the last line is behind. Whoever reads the lines makes the walk.
+#![tactic(auto)]
+
 ghost use Rattle.std.specs.Prelude.{◌≡◌, ◌||◌, ◌≤◌, eqb, length, set};
 ghost use Rattle.job.specs.Questions.{less};
 ghost use Rattle.edge_pass.specs.EdgePass.{is_right, order_after, terminal_state};
@@ -8,7 +10,7 @@ use layout::lines::right_after;
 
 // For question 6, 40 bytes: the number of states, how many edge lines are behind, how many of them are right before the first that is not, and the
 // pair on the last line behind, right or not.
-#[derive(Drop)]
+#[derive(Clone, Copy)]
 pub struct Order {
     pub states: usize,
     pub lines: usize,

@@ -35,7 +35,7 @@ fn line_start(pairs: usize, number: usize) -> usize
 }
 
 // A part of a text: where it begins, and how many bytes it has.
-#[derive(Drop)]
+#[derive(Clone, Copy)]
 pub struct Part {
     pub start: usize,
     pub size: usize,
