@@ -1,5 +1,7 @@
 // All questions of a call on a table, put in order: 1 to 8, for which the text is read into the image of its job, and then the call's own.
 // Where one is answered no the call is refused by it; where none is, the image is there to work on.
+#![tactic(auto)]
+
 ghost use Rattle.std.specs.Prelude.{◌≡◌, replicate};
 ghost use Rattle.job.specs.Question.{no_number};
 ghost use Rattle.cells.specs.Calls.{own_questions};
@@ -12,7 +14,7 @@ use job::reading::Refusal;
 use questions::{accept_no, close_no, look_no, offer_no, page_no, step_no, table_no};
 
 // A call with the numbers passed, page with the length of its buffer. Fresh, which decodes nothing, is not among them.
-#[derive(Drop)]
+#[derive(Clone, Copy)]
 pub enum Asking {
     Step(usize),
     Offer(usize, usize),

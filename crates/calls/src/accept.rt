@@ -9,7 +9,7 @@ use job::reading::Refusal;
 use table::cell::put;
 
 // With how many cells are filled, 0 or 1.
-#[derive(Drop)]
+#[derive(Clone, Copy)]
 pub enum Delivered {
     Accepted(usize),
     Refused(Refusal),

@@ -7,7 +7,7 @@ use asking::{Asking, ask};
 use closing::{Closing, close_smallest};
 use job::reading::Refusal;
 
-#[derive(Drop)]
+#[derive(Clone, Copy)]
 pub enum Closed {
     Accepted(Closing),
     Refused(Refusal),

@@ -9,7 +9,7 @@ use asking::{Asking, ask};
 use job::reading::Refusal;
 use rounds::finish::{Outcome, finish_table};
 
-#[derive(Drop)]
+#[derive(Clone, Copy)]
 pub enum Finished {
     Accepted(Outcome),
     Refused(Refusal),

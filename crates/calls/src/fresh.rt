@@ -8,7 +8,7 @@ use job::reading::{Reading, Refusal};
 use layout::refusal::refused_by;
 use table::clear::clear;
 
-#[derive(Drop)]
+#[derive(Clone, Copy)]
 pub enum Cleared {
     Accepted,
     Refused(Refusal),

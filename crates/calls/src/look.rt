@@ -9,7 +9,7 @@ use questions::node_read;
 use table::cell::cell;
 
 // With the cell, 2 where it is empty.
-#[derive(Drop)]
+#[derive(Clone, Copy)]
 pub enum Looked {
     Accepted(u8),
     Refused(Refusal),

@@ -8,14 +8,14 @@ use job::reading::Refusal;
 use table::cell::owner_cell;
 
 // What a node tells of a state that it owns.
-#[derive(Drop)]
+#[derive(Clone, Copy)]
 pub struct Message {
     pub state: usize,
     pub subformula: usize,
     pub value: u8,
 }
 
-#[derive(Drop)]
+#[derive(Clone, Copy)]
 pub enum Offered {
     Accepted(Message),
     Refused(Refusal),

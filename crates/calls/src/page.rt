@@ -8,7 +8,7 @@ use asking::{Asking, ask};
 use job::reading::Refusal;
 use page_writer::write_page;
 
-#[derive(Drop)]
+#[derive(Clone, Copy)]
 pub enum Paged {
     Accepted,
     Refused(Refusal),

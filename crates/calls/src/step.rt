@@ -8,7 +8,7 @@ use job::reading::Refusal;
 use stepping::node::step_node;
 
 // With how many cells are filled.
-#[derive(Drop)]
+#[derive(Clone, Copy)]
 pub enum Stepped {
     Accepted(usize),
     Refused(Refusal),

@@ -1,4 +1,6 @@
 // Closing: the smallest subformula for which some owner's cell is empty, and filling what is empty of it.
+#![tactic(auto)]
+
 ghost use Rattle.std.specs.Prelude.{◌≡◌, ◌<◌, ◌≤◌, [], ◌∷◌, length};
 ghost use Rattle.job.specs.Job.{subformula_count};
 ghost use Rattle.cells.specs.Calls.{Call, told, left};
@@ -62,7 +64,7 @@ pub fn close_column(m: &Image, table: &mut [u8], k: usize) -> usize
 }
 
 // The subformula that is closed, and how many cells are filled.
-#[derive(Drop)]
+#[derive(Clone, Copy)]
 pub struct Closing {
     pub subformula: usize,
     pub filled: usize,

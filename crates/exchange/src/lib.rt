@@ -1,4 +1,6 @@
 // The steps of all nodes and copying to border states, one behind the other, as in a round. A table is settled where these fill nothing.
+#![tactic(auto)]
+
 ghost use Rattle.cells.specs.Finish.{steps_up_to, exchange as exchange_of};
 ghost use Rattle.image.specs.Image.{job_of};
 ghost use Rattle.exchange.specs.Running.{Running, Ran};

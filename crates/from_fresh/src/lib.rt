@@ -1,5 +1,7 @@
 // Finish from a fresh table, as the programs do it: line 1's numbers, how many cells the table for a text has, and finish on so many of the empty cells of an array
 // that has room for every job's.
+#![tactic(auto)]
+
 ghost use Rattle.std.specs.Prelude.{◌≡◌, ◌≤◌, length, replicate, take};
 ghost use Rattle.cells.specs.Calls.{Call, answer, after};
 ghost use Rattle.calls.specs.Told.{finish_told};

@@ -7,7 +7,7 @@ use image::image::Image;
 use job::reading::Header;
 
 // How many lines are well-formed before the first that is not, and how many of these are right before the first that is not.
-#[derive(Drop)]
+#[derive(Clone, Copy)]
 pub struct Lines {
     pub formed: usize,
     pub right: usize,

@@ -1,4 +1,6 @@
 // Opening states: questions 25 and 26, put to the marks that finish takes, and what it answers of a complete table at the states that they mark.
+#![tactic(auto)]
+
 ghost use Rattle.std.specs.Prelude.{◌<◌, ◌≡◌, [], ◌∷◌, length, get_or, ltb};
 ghost use Rattle.law.specs.Bounded.{any};
 ghost use Rattle.job.specs.Job.{size};
@@ -76,7 +78,7 @@ fn lowest_no(m: &Image, table: &[u8], marks: &[u8]) -> usize
 }
 
 // Whether the answer is yes, and where not the lowest opening state that says no.
-#[derive(Drop)]
+#[derive(Clone, Copy)]
 pub struct Verdict {
     pub yes: u8,
     pub lowest: usize,

@@ -1,5 +1,7 @@
 // Reads a job from standard input and prints the page of the node that its argument names. 25,878 bytes are enough to find any longer text wrong. An
 // argument that is missing, or does not fit into two bytes, comes as an empty one, which names no node either.
+#![tactic(auto)]
+
 use libc::{STDIN_FILENO, STDOUT_FILENO};
 use page_output::page_output;
 

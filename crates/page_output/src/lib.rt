@@ -1,4 +1,6 @@
 // What the program page prints of its argument and its input: the page of a node's table after finish from fresh, or the two numbers of the refusal.
+#![tactic(auto)]
+
 ghost use Rattle.std.specs.Prelude.{◌≡◌, ◌≤◌, length, take};
 ghost use Rattle.page_output.specs.PageOutput.{node_named, page_output};
 ghost use Rattle.page_output.specs.PageSize.{PageSize};

@@ -1,6 +1,8 @@
 // One node's table written as a page into a lent buffer: the heading, and a line for each state. Each function writes its part of the page at its
 // place and leaves every other byte. A line takes 80 bytes, so that of state s begins at 80 * s + 80: five columns for the state, five for its owner,
 // five for its label, then from 80 * s + 95 on two for each subformula, spaces up to column 79, and byte 10.
+#![tactic(auto)]
+
 ghost use Rattle.std.specs.Prelude.{◌≡◌, [], ◌∷◌, ◌++◌, suc, ◌+◌, ◌-◌, ◌*◌, ◌<◌, ◌≤◌, length, replicate};
 ghost use Rattle.std.proofs.lemmas.List.Edits.{sets};
 ghost use Rattle.law.specs.Lists.{tab, flatten};

@@ -1,5 +1,7 @@
 // The own questions of the calls on a table, behind 1 to 8: for each call one function that puts them and gives the number of the first no,
 // 0 where there is none. Fresh puts its one itself.
+#![tactic(auto)]
+
 ghost use Rattle.std.specs.Prelude.{◌<◌, ◌≡◌, ◌&&◌, ◌||◌, [], ◌∷◌, ltb, eqb};
 ghost use Rattle.job.specs.Job.{size, subformula_count};
 ghost use Rattle.job.specs.Question.{no_number};

@@ -1,4 +1,6 @@
 // Question 10: every cell of a table is 0 to 2, and empty outside fragments. Asked row by row.
+#![tactic(auto)]
+
 ghost use Rattle.std.specs.Prelude.{◌≡◌, ◌<◌};
 ghost use Rattle.job.specs.Job.{size};
 ghost use Rattle.cells.specs.Table.{cells_right};

@@ -11,7 +11,7 @@ use image::image::{Image, subformulas};
 use table::cell::owner_cell;
 
 // The rounds done and the cells filled.
-#[derive(Drop)]
+#[derive(Clone, Copy)]
 struct Rounds {
     rounds: usize,
     cells: usize,
@@ -39,7 +39,7 @@ fn run(m: &Image, table: &mut [u8]) -> Rounds
 }
 
 // The owner's cell of state 0 and the whole formula, the rounds done, the last one counted, and the cells filled.
-#[derive(Drop)]
+#[derive(Clone, Copy)]
 pub struct Outcome {
     pub verdict: u8,
     pub rounds: usize,

@@ -1,4 +1,6 @@
 // Reads rule text from standard input and prints what the library says of it. 514 bytes are enough to find any longer text too long.
+#![tactic(auto)]
+
 use libc::{STDIN_FILENO, STDOUT_FILENO};
 use rule_output::rule_output;
 

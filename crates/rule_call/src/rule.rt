@@ -14,7 +14,7 @@ use scanner::scan::skip_spaces;
 use text::decimal::write_line;
 
 // The number of lines, or the refusal.
-#[derive(Drop)]
+#[derive(Clone, Copy)]
 pub enum Ruled {
     Accepted(usize),
     Refused(Refusal),

@@ -1,4 +1,6 @@
 // What the program rule prints of its input: the answer of the call rule as a line of two numbers, and behind it the lines that the call writes.
+#![tactic(auto)]
+
 ghost use Rattle.std.specs.Prelude.{◌≡◌, [], ◌∷◌, ◌≤◌, length, take, drop};
 ghost use Rattle.rule_text.specs.RuleCall.{rule_answer, rule_buffer};
 ghost use Rattle.rule_call.specs.Ruled.{ruled_told};

@@ -4,7 +4,7 @@ ghost use Rattle.rule_places.specs.Binding.{row_of, binding_of, right_of};
 
 use rule_text::token::Operator;
 
-#[derive(Drop)]
+#[derive(Clone, Copy)]
 pub struct Binding {
     pub strength: usize,
     pub leftward: bool,

@@ -1,4 +1,6 @@
 // What stands at a place of rule text, as its reader asks: a mark that is expected there, or a binary operator that is strong enough. How
 // strongly the operators bind, and to which side they group, one table has.
+#![tactic(auto)]
+
 pub mod binding;
 pub mod places;

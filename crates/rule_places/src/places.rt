@@ -6,7 +6,7 @@ use crate::binding::{binding_of, right_level};
 use rule_text::token::{Operator, Token};
 use scanner::scan::token_at;
 
-#[derive(Drop)]
+#[derive(Clone, Copy)]
 pub enum Place {
     Behind(usize),
     Missing,
@@ -29,14 +29,14 @@ pub fn mark_at(text: &[u8], at: usize, c: u8) -> Place
 }
 
 // A binary operator, the least strength of the operators in its right operand, and the place behind it.
-#[derive(Drop)]
+#[derive(Clone, Copy)]
 pub struct Infix {
     pub operator: Operator,
     pub right: usize,
     pub behind: usize,
 }
 
-#[derive(Drop)]
+#[derive(Clone, Copy)]
 pub enum Following {
     By(Infix),
     Nothing,

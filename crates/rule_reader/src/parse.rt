@@ -15,13 +15,13 @@ use rule_text::token::{Prefix, Token};
 use scanner::scan::token_at;
 
 // What was read: the number of its line, and the place behind it.
-#[derive(Drop)]
+#[derive(Clone, Copy)]
 pub struct Part {
     pub line: usize,
     pub next: usize,
 }
 
-#[derive(Drop)]
+#[derive(Clone, Copy)]
 pub enum Operand {
     Found(Part),
     Missing,

@@ -2,7 +2,7 @@
 -- "Bytes after the lines stay. Errors: 21 the lent buffer is not 512 bytes; 22 the text is over 512 bytes or not in the grammar; 23 more
 -- than 32 lines; asked in this order." Assumes nothing.
 use Rattle.std.specs.Prelude.{ℕ, ◌≤◌, ◌≡◌, Bool, true, false, ◌&&◌, List, [], ◌∷◌, length, leb, eqb}
-use Rattle.std.proofs.Math.Option.{Option·elim}
+use Rattle.std.proofs.Math.Option.{Option-elim}
 use Rattle.std.proofs.lemmas.List.Edits.{sets}
 use Rattle.text.specs.Field.{Text}
 use Rattle.job.specs.Answer.{Answer}
@@ -16,10 +16,10 @@ use Rattle.rule_text.specs.Parse.{reading}
 -- The lines of the text's tree; a text that has none has no lines. `reading` computes the tree that the grammar derives
 -- (`proofs/Reading.antt: reading_means, means_reading`).
 unfoldable pub rule_lines : Text → List Subformula
-rule_lines x = Option·elim (reading x) [] lines_of
+rule_lines x = Option-elim (reading x) [] lines_of
 
 unfoldable pub is_rule : Text → Bool
-is_rule x = Option·elim (reading x) false (λ f. true)
+is_rule x = Option-elim (reading x) false (λ f. true)
 
 unfoldable pub rule_questions : Text → List ℕ → List Question
 rule_questions x buffer =

@@ -1,6 +1,6 @@
 // The tokens of rule text.
 
-#[derive(Drop)]
+#[derive(Clone, Copy)]
 pub enum Prefix {
     Not,
     Ax,
@@ -9,14 +9,14 @@ pub enum Prefix {
     Ag,
 }
 
-#[derive(Drop)]
+#[derive(Clone, Copy)]
 pub enum Operator {
     And,
     Or,
     Implies,
 }
 
-#[derive(Drop)]
+#[derive(Clone, Copy)]
 pub enum Token {
     Atom(usize),
     Prefix(Prefix),
@@ -28,7 +28,7 @@ pub enum Token {
 }
 
 // A token, and how many bytes spell it.
-#[derive(Drop)]
+#[derive(Clone, Copy)]
 pub struct Lexeme {
     pub token: Token,
     pub width: usize,

@@ -6,7 +6,7 @@ use crate::lexeme::lexeme;
 use rule_text::token::Token;
 
 // A token, and the place behind it and behind the spaces there, so that no space is walked over twice.
-#[derive(Drop)]
+#[derive(Clone, Copy)]
 pub struct Scanned {
     pub token: Token,
     pub behind: usize,

@@ -3,6 +3,8 @@
 // (number, line, then the call's own, which are 0 where it is refused) are stored into an array that the caller lends; one that is too short takes
 // as many as fit. Nothing is worked out here and nothing is required: any bytes and any numbers may be passed. `include/selahmur.h` declares the functions, and
 // `rt staticlib selahmur` writes the archive.
+#![tactic(auto)]
+
 pub mod message;
 pub mod page;
 pub mod reading;

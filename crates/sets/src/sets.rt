@@ -16,7 +16,7 @@ use table::cell::{cell, put};
 
 // How the smallest set of a rule grows: over all successors or some, where a state starts in it, where it may grow, and the value that
 // it gives.
-#[derive(Drop)]
+#[derive(Clone, Copy)]
 pub struct Growth {
     pub all: bool,
     pub start: Condition,
@@ -25,7 +25,7 @@ pub struct Growth {
 }
 
 // A condition as one cell to read: it is met where the cell of `subformula` is `value`.
-#[derive(Drop)]
+#[derive(Clone, Copy)]
 struct WantedCell {
     subformula: usize,
     value: u8,
@@ -33,7 +33,7 @@ struct WantedCell {
 
 // What the states of a column are marked by: the own cell with which a state is in the set already, the cells that let it start and grow,
 // and the value that counts beside what these two want.
-#[derive(Drop)]
+#[derive(Clone, Copy)]
 struct Marking {
     own: WantedCell,
     start: WantedCell,

@@ -1,4 +1,6 @@
 // Reads a job from standard input and prints what the library says of it. 25,878 bytes are enough to find any longer text wrong.
+#![tactic(auto)]
+
 use libc::{STDIN_FILENO, STDOUT_FILENO};
 use verdict_line::verdict_line;
 

@@ -1,4 +1,6 @@
 // What the program verdict prints of a text: finish's answer on a fresh table, as one line of five numbers.
+#![tactic(auto)]
+
 ghost use Rattle.std.specs.Prelude.{◌≡◌};
 ghost use Rattle.text.specs.Decimal.{line, Short};
 ghost use Rattle.verdict_line.specs.VerdictLine.{verdict_line};
