@@ -1,0 +1,8 @@
+-- `states`: the first number of line 1.
+use Rattle.image.proofs.ImageLaws.{image_denotes, states_read}
+use borrow.Author.Rules.{rules}
+use Rattle.image.proofs.image.states.Goals as goal
+
+pub returns : goal.returns
+returns c =
+    states_read _ c.args.m.now (image_denotes c.args.m.now c.requires) c.word.result c.word.ensures.0
