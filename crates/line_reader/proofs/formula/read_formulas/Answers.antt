@@ -78,7 +78,6 @@ right_after-right-requires c =
 pub loop-k-preserved : goal.loop-k-preserved
 loop-k-preserved c =
     let l = c.loop-k in
-    let numbers = c.line-1.given.0 in
     let (so, laid) = formula_more (text_of (goal.at.loop-k-preserved c).In-loop-k) (header_of (goal.at.loop-k-preserved c).In-loop-k) (fits_of (goal.at.loop-k-preserved c).In-loop-k) c.args.m.now l.m _ _ _ l.k c.in-Numbers.kind c.in-Numbers.a c.in-Numbers.b
     l.right _ _ (omega arith) (sym c.read_triple-line.ensures ∙ c.in-Numbers.is) c.lay.ensures.0
     c.lay-in-loop-k.ensures.0 c.lay-in-loop-k-2.ensures.0 c.is_subformula.ensures c.right_after-right.ensures l.invariant.1 l.invariant.2 in

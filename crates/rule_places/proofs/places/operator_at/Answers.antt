@@ -4,16 +4,16 @@ use borrow.Author.Rules.{rules}
 use Rattle.rule_places.specs.Places.{Follows}
 use Rattle.rule_places.proofs.BindingLaws.{binding_strength, binding_few, binding_right}
 use Rattle.rule_places.proofs.PlaceLaws.{scans_starts, scans_infix, other_token_ends, weak_operator_ends}
+use borrow.Enum.Refused.{opened}
 use Rattle.rule_places.proofs.places.operator_at.Goals as goal
 
 pub returns-in_default : goal.returns-in_default
 unfolding Follows
-returns-in_default c = other_token_ends _ _ _ _ c.in_default.in_default-own.keys2 c.token_at-s.ensures.starts
+returns-in_default c = other_token_ends _ _ _ _ (opened c.in_default.in_default-own.keys2) c.token_at-s.ensures.starts
 
 pub returns-then-b-least : goal.returns-then-b-least
 unfolding Follows
 returns-then-b-least c =
-    let o = c.token-1.given in
     weak_operator_ends c.in-Operator.operator _ _ _ (rw (binding_strength _ _ c.binding_of-b.ensures) at c.if-b-least.true)
     (scans_starts _ _ _ c.token_at-s.ensures _ c.in-Operator.is)
 
@@ -24,6 +24,5 @@ pub returns : goal.returns
 unfolding Follows
 returns c =
     let binding = c.binding_of-b.ensures in
-    let o = c.token-1.given in
     scans_infix _ _ _ c.token_at-s.ensures c.in-Operator.operator _ _ c.in-Operator.is
     (rw (binding_strength _ _ binding) at c.if-b-least.false) (c.right_level.ensures ∙ binding_right _ _ binding)
