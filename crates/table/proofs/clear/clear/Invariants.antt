@@ -1,0 +1,15 @@
+-- `clear`: the bytes passed so far are 2.
+use Prim.Native.Nat.{◌-◌, ◌≤◌}
+use mathlib.Core.Path.{◌≡◌, refl, ap, ◌∙◌}
+use mathlib.Core.List.{◌++◌, append-nil}
+use lib.ListN.{length, set, drop, replicate, length-set}
+use lib.Seq.{drop-length}
+use Rattle.cells.specs.Table.{fresh_table}
+use native.Mathlib.Omega.{arith}
+use Rattle.table.proofs.clear.clear.Given as goal
+
+abbrev pub invariant-loop-i : goal.invariant-loop-i
+invariant-loop-i l = (l.i ≤ length l.initial.table) × (length l.table ≡ length l.initial.table) × (l.table ≡ replicate l.i 2 ++ drop l.i l.initial.table)
+
+abbrev pub decreases-loop-i : goal.decreases-loop-i
+decreases-loop-i l = length l.initial.table - l.i
