@@ -1,0 +1,13 @@
+-- `write_cells`: a cell more, behind those written.
+use Prim.Native.Nat.{◌-◌}
+use Rattle.law.proofs.Pieces.{written_start}
+use Rattle.image.specs.Image.{job_of}
+use Rattle.page_writer.proofs.PartLaws.{CellsSoFar, cells_turn, cells_over, run_inside, run_small, run_low}
+use native.Mathlib.Omega.{arith}
+use Rattle.page_writer.proofs.write_cells.Given as goal
+
+abbrev pub invariant-loop-k : goal.invariant-loop-k
+invariant-loop-k l = CellsSoFar (job_of l.m) l.table l.n l.s l.initial.out l.out l.count l.k
+
+abbrev pub decreases-loop-k : goal.decreases-loop-k
+decreases-loop-k l = l.count - l.k

@@ -1,0 +1,13 @@
+-- `write_page`: a line more, behind those written.
+use Prim.Native.Nat.{◌-◌}
+use Rattle.law.proofs.Pieces.{written_start}
+use Rattle.job.specs.Job.{size}
+use Rattle.image.specs.Image.{job_of}
+use Rattle.page_writer.proofs.PartLaws.{RowsSoFar, rows_turn, page_written, row_fits}
+use Rattle.page_writer.proofs.write_page.Given as goal
+
+abbrev pub invariant-loop-s : goal.invariant-loop-s
+invariant-loop-s l = RowsSoFar (job_of l.m) l.table l.n l.initial.out l.out l.s
+
+abbrev pub decreases-loop-s : goal.decreases-loop-s
+decreases-loop-s l = l.count - l.s
