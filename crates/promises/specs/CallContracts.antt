@@ -3,7 +3,7 @@
 -- source: of the lifetimes, the arguments, the result, and the arguments at exit. Assumes nothing.
 use Rattle.std.specs.Prelude.{ℕ, ◌≡◌, List, length, take}
 use contract.Lifetimes.{Lfts}
-use denote.Ref.{MutBor, at_last}
+use denote.Ref.{Bor, MutBor, at_last, as_bor}
 use Rattle.text.specs.Field.{Text}
 use Rattle.job.specs.Answer.{Answer}
 use Rattle.job.specs.Read.{read_told, read_answer, line_of}
@@ -22,7 +22,7 @@ use Rattle.calls.specs.declared.finish.Finished.{Finished}
 use Rattle.calls.specs.declared.page.Paged.{Paged}
 use Rattle.page_text.specs.PageCall.{page_buffer}
 use Rattle.page_output.specs.PageOutput.{page_output}
-use Rattle.page_output.specs.declared.Output as printed_page
+use Rattle.page_output.specs.declared.Output as page_printed
 use Rattle.verdict_line.specs.VerdictLine.{verdict_line}
 use Rattle.rule_text.specs.RuleCall.{rule_answer, rule_buffer}
 use Rattle.rule_call.specs.Ruled.{ruled_told}
@@ -44,23 +44,31 @@ use Rattle.rule_call.proofs.rule.rule.Reads as ruling
 use Rattle.rule_output.proofs.rule_output.Reads as outputting
 use Rattle.page_output.proofs.page_output.Reads as printing_page
 
--- How text, table and buffer are lent. Contracts speak only of the values behind the references.
+-- How text, table and buffer are lent: the text to be read alone, the others to be written or read. Contracts speak only of the values behind the
+-- references.
 pub record Loan : Type 0 where
   -- for how long, and by which references
   pub lifetimes : Lfts 3
-  pub text : MutBor (List ℕ)
+  pub text : Bor (List ℕ)
   pub table : MutBor (List ℕ)
   pub buffer : MutBor (List ℕ)
 
 module _ (l : Loan) (x : Text) where
-  abbrev text : MutBor (List ℕ)
-  text = at_last l.text x
+  abbrev text : Bor (List ℕ)
+  text = record { ref_ptr = l.text.ref_ptr; now = x }
 
   abbrev table : Table → MutBor (List ℕ)
   table t = at_last l.table t
 
   abbrev buffer : List ℕ → MutBor (List ℕ)
   buffer b = at_last l.buffer b
+
+  -- the same, lent to be read alone
+  abbrev table_read : Table → Bor (List ℕ)
+  table_read t = as_bor (table t)
+
+  abbrev buffer_read : List ℕ → Bor (List ℕ)
+  buffer_read b = as_bor (buffer b)
 
   -- of a call that is lent one thing, or two
   abbrev one : Lfts 1
@@ -74,7 +82,7 @@ module _ (l : Loan) (x : Text) where
   Pages t n b a w =
       (r : Paged)
       × (page_told r ≡ a)
-      × paging.Learnt l.lifetimes (text, (table t, (n, (buffer b, tt)))) r (text, (table t, (n, (buffer w, tt))))
+      × paging.Learnt l.lifetimes (text, (table_read t, (n, (buffer b, tt)))) r (text, (table_read t, (n, (buffer w, tt))))
 
   -- The call with text x and table t may answer a and leave table u: the contract of its function holds of these. The table that offer,
   -- look and page are lent can only be read, so it stays; page writes a buffer of so many bytes, of any content.
@@ -91,7 +99,7 @@ module _ (l : Loan) (x : Text) where
       (r : Offered)
       × (offer_told r ≡ a)
       × (u ≡ t)
-      × offering.Learnt two (text, (table t, (s, (k, tt)))) r (text, (table t, (s, (k, tt))))
+      × offering.Learnt two (text, (table_read t, (s, (k, tt)))) r (text, (table_read t, (s, (k, tt))))
   Happens (accept n s k v) t a u =
       let m : Message = record { state = s; subformula = k; value = v } in
       (r : Delivered)
@@ -101,7 +109,7 @@ module _ (l : Loan) (x : Text) where
       (r : Looked)
       × (look_told r ≡ a)
       × (u ≡ t)
-      × looking.Learnt two (text, (table t, (n, (s, (k, tt))))) r (text, (table t, (n, (s, (k, tt)))))
+      × looking.Learnt two (text, (table_read t, (n, (s, (k, tt))))) r (text, (table_read t, (n, (s, (k, tt)))))
   Happens close t a u =
       (r : Closed)
       × (close_told r ≡ a)
@@ -118,7 +126,7 @@ module _ (l : Loan) (x : Text) where
 
   unfoldable pub HandsBack : ℕ → List ℕ → Type 0
   HandsBack n part =
-      (r : MutBor (List ℕ)) × (r.now ≡ part) × lining.Learnt one (text, (n, tt)) r (text, (n, tt))
+      (r : Bor (List ℕ)) × (r.now ≡ part) × lining.Learnt one (text, (n, tt)) r (text, (n, tt))
 
   unfoldable pub Prints : List ℕ → Type 0
   Prints said = printing.Learnt one (text, tt) said (text, tt)
@@ -140,9 +148,9 @@ module _ (l : Loan) (x : Text) where
   -- the program page may print these bytes of its argument, which is lent as a buffer is, and its input, x
   unfoldable pub PrintsPage : List ℕ → List ℕ → Type 0
   PrintsPage argument said =
-      (r : printed_page.Output)
+      (r : page_printed.Output)
       × (take r.length r.bytes ≡ said)
-      × printing_page.Learnt two (buffer argument, (text, tt)) r (buffer argument, (text, tt))
+      × printing_page.Learnt two (buffer_read argument, (text, tt)) r (buffer_read argument, (text, tt))
 
 -- Whatever is lent, what is defined may happen.
 pub record MayHappen (l : Loan) (x : Text) : Type 0 where
@@ -153,4 +161,4 @@ pub record MayHappen (l : Loan) (x : Text) : Type 0 where
   pub rule : (b : List ℕ) → Rules l x b (rule_answer x b) (rule_buffer x b)
   pub printed_rule : PrintsRule l x (rule_output x)
   pub page_written : (t : Table) (n : ℕ) (b : List ℕ) → Pages l x t n b (answer (page n (length b)) x t) (page_buffer x t n b)
-  pub printed_page_lem : (argument : List ℕ) → PrintsPage l x argument (page_output argument x)
+  pub printed_page : (argument : List ℕ) → PrintsPage l x argument (page_output argument x)
