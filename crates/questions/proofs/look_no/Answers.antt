@@ -2,7 +2,7 @@
 use Prim.Native.Nat.{◌<◌}
 use mathlib.Core.Path.{◌≡◌, sym, ◌∙◌}
 use mathlib.Core.Bool.{true, ◌&&◌, ◌||◌}
-use borrow.Author.Tests.{not-true, not-false}
+use borrow.Author.Tests.{not-false}
 use lib.Dec.{ltb, eqb}
 use Rattle.job.specs.Job.{size, subformula_count}
 use Rattle.cells.specs.Calls.{node_read, own_questions}
@@ -10,7 +10,6 @@ use Rattle.cells.proofs.CallLaws.{numbers_in, read_below}
 use Rattle.image.specs.Image.{job_of}
 use Rattle.table.specs.Lent.{Ready}
 use Rattle.questions.proofs.NoLaws.{table_first, table_ready, look_number, out_of_fragment, in_fragment_lem}
-use borrow.Author.Rules.{rules}
 use Rattle.questions.proofs.look_no.Goals as goal
 use Rattle.questions.proofs.look_no.Goals.{Else-no-ne0, Else-not-are_in, Else-not-is_node}
 

@@ -1,7 +1,7 @@
 -- `named_no`: 12, then 13.
 use mathlib.Core.Path.{◌≡◌, sym, ◌∙◌}
 use mathlib.Core.Bool.{true, ◌&&◌}
-use borrow.Author.Tests.{not-true, not-false}
+use borrow.Author.Tests.{not-false}
 use lib.Dec.{ltb}
 use Rattle.job.specs.Job.{size, subformula_count}
 use Rattle.cells.specs.Close.{is_temporal}
@@ -9,7 +9,6 @@ use Rattle.image.specs.Image.{job_of}
 use Rattle.messages.proofs.NewsLaws.{temporal_is}
 use Rattle.cells.proofs.CallLaws.{numbers_in}
 use Rattle.questions.proofs.NoLaws.{named_number}
-use borrow.Author.Rules.{rules}
 use Rattle.questions.proofs.named_no.Goals as goal
 use Rattle.questions.proofs.named_no.Goals.{After-is_temporal, Else-not-are_in}
 

@@ -2,7 +2,6 @@
 use borrow.Author.Tests.{eq-eqb, ne_eqb, not-true, not-false}
 use Rattle.law.proofs.Bool.{and_no_right}
 use Rattle.layout.specs.Lines.{right_after}
-use borrow.Author.Rules.{rules}
 use Rattle.layout.proofs.lines.right_after.Goals as goal
 
 pub returns-then-right-lines : goal.returns-then-right-lines

@@ -1,5 +1,4 @@
 -- `mark_at`: the token is no mark, another mark, or this one.
-use borrow.Author.Rules.{rules}
 use mathlib.Core.Path.{ap, refl, ◌∙◌}
 use Rattle.rule_text.specs.declared.token.Token.TheVariants.{Mark}
 use Rattle.rule_places.specs.Places.{Marked}

@@ -1,6 +1,5 @@
 -- `operator_at`: the token is no operator, one that is too weak, or the operator that follows.
 use mathlib.Core.Path.{◌∙◌}
-use borrow.Author.Rules.{rules}
 use Rattle.rule_places.specs.Places.{Follows}
 use Rattle.rule_places.proofs.BindingLaws.{binding_strength, binding_few, binding_right}
 use Rattle.rule_places.proofs.PlaceLaws.{scans_starts, scans_infix, other_token_ends, weak_operator_ends}

@@ -2,7 +2,6 @@
 use mathlib.Core.Path.{sym, subst}
 use Rattle.job.specs.Rule.{InRange}
 use Rattle.stepping.proofs.ColumnLaws.{stepped_by, not_sets}
-use borrow.Author.Rules.{rules}
 use borrow.Enum.Refused.{opened}
 use Rattle.stepping.proofs.column.step_column.Goals as goal
 

@@ -3,11 +3,10 @@ use Prim.Native.Nat.{◌+◌}
 use mathlib.Core.Path.{◌≡◌, ◌∙◌, sym}
 use mathlib.Core.Bool.{true}
 use lib.ListN.{get_or}
-use borrow.Author.Tests.{not-true, not-false}
+use borrow.Author.Tests.{not-false}
 use Rattle.text.specs.Field.{is_digit}
 use Rattle.text.proofs.FieldLaws.{columns_none, columns_no_digit, columns_digit}
 use native.Mathlib.Omega.{arith}
-use borrow.Author.Rules.{rules}
 use Rattle.text.proofs.field.read_field.Goals as goal
 use Rattle.text.proofs.field.read_field.Goals.{Else-not-is_digit}
 

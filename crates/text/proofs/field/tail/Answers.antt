@@ -1,12 +1,11 @@
 -- `tail`: the number so far and the columns left give the whole.
-use Prim.Native.Nat.{◌+◌, ◌-◌, ◌^◌, ◌≤◌, ◌<◌}
+use Prim.Native.Nat.{◌+◌, ◌-◌, ◌<◌}
 use mathlib.Core.Path.{◌≡◌, ◌∙◌, sym, refl}
 use mathlib.Core.Bool.{true}
 use lib.ListN.{get_or}
-use lib.Seq.{slice}
 use native.Mathlib.Nat.{add-sub_cancel_left}
-use borrow.Author.Tests.{not-true, not-false}
-use Rattle.text.specs.Field.{is_digit, digits}
+use borrow.Author.Tests.{not-false}
+use Rattle.text.specs.Field.{is_digit}
 use Rattle.text.proofs.FieldLaws.{digits_no_digit, digits_behind_zero, digits_digit, digits_none, digit_more, digits_small}
 use borrow.Author.Rules.{rules}
 use native.Mathlib.Omega.{arith}
