@@ -29,7 +29,7 @@ returns-then-not-is_node c =
 -- behind 11
 module _ (c : Else-not-is_node) where
   yes_11 : (ltb c.args.n (job_of c.args.m.now).nodes || eqb c.args.n 255) ≡ true
-  yes_11 = sym c.is_node.ensures ∙ not-false _ c.if-not-is_node.false-raw
+  yes_11 = sym c.is_node.ensures ∙ c.if-not-is_node.false
 
 pub returns-then-not-are_in : goal.returns-then-not-are_in
 returns-then-not-are_in c =
@@ -38,7 +38,7 @@ returns-then-not-are_in c =
 -- behind 12
 module _ (c : Else-not-are_in) where
   yes_12 : (ltb c.args.s (size (job_of c.args.m.now)) && ltb c.args.k (subformula_count (job_of c.args.m.now))) ≡ true
-  yes_12 = sym c.are_in.ensures ∙ not-false _ c.if-not-are_in.false-raw
+  yes_12 = sym c.are_in.ensures ∙ c.if-not-are_in.false
 
   state_in : c.args.s < size (job_of c.args.m.now)
   state_in = (numbers_in _ _ _ yes_12).0

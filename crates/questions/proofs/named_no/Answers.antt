@@ -19,7 +19,7 @@ yes_12 :
     (c : Else-not-are_in)
     → let a = c.args in
     (ltb a.s (size (job_of a.m.now)) && ltb a.k (subformula_count (job_of a.m.now))) ≡ true
-yes_12 c = sym c.are_in.ensures ∙ not-false _ c.if-not-are_in.false-raw
+yes_12 c = sym c.are_in.ensures ∙ c.if-not-are_in.false
 
 pub subformula-requires : goal.subformula-requires
 subformula-requires c = record { image = c.requires; k_bound = (numbers_in _ _ _ (yes_12 (goal.at.subformula-requires c).Else-not-are_in)).1 }

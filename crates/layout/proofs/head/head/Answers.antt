@@ -52,7 +52,7 @@ length_asked c =
     )
 
 line_formed : (c : After-are_in_ranges) → formed (text_of c) 0 4 ≡ true
-line_formed c = sym c.is_formed.ensures ∙ not-false _ c.if-not-is_formed.false-raw
+line_formed c = sym c.is_formed.ensures ∙ c.if-not-is_formed.false
 
 long_enough : (c : After-are_in_ranges) → 21 ≤ length (text_of c)
 long_enough c = c.if-text-lt21.false

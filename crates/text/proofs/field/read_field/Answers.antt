@@ -33,7 +33,7 @@ digit_here :
     (c.args.at + c.spaces-skipped.result)
     0)
     ≡ true
-digit_here c = sym c.is_digit.ensures ∙ not-false _ c.if-not-is_digit.false-raw
+digit_here c = sym c.is_digit.ensures ∙ c.if-not-is_digit.false
 
 pub digit-requires : goal.digit-requires
 digit-requires c = digit_here (goal.at.digit-requires c).Else-not-is_digit

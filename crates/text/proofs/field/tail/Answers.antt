@@ -13,7 +13,7 @@ use Rattle.text.proofs.field.tail.Goals as goal
 use Rattle.text.proofs.field.tail.Goals.{Else-not-is_digit, In-loop-i}
 
 digit_here : (c : Else-not-is_digit) → is_digit (get_or c.args.text.now c.loop-i.i 0) ≡ true
-digit_here c = sym c.is_digit.ensures ∙ not-false _ c.if-not-is_digit.false-raw
+digit_here c = sym c.is_digit.ensures ∙ c.if-not-is_digit.false
 
 small : (c : In-loop-i) → c.loop-i.value < 100000
 small c =
