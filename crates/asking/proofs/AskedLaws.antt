@@ -29,12 +29,12 @@ module _ (c : Call) (x : Text) (t : Table) (m : List ℕ) where
         refused_so = own_refused c x t read.accepts r here;
         admitted_so =
             λ none.
-            let (Told-here, left_here) = own_accepted c x t read.accepts r here none in
+            let (told_here, left_here) = own_accepted c x t read.accepts r here none in
             record {
               image = read.image;
               denotes = read.denotes;
               none_no = sym none ∙ asked;
-              told_is = rw read.denotes Told-here;
+              told_is = rw read.denotes told_here;
               left_is = rw read.denotes left_here;
             };
       }

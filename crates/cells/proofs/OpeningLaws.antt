@@ -1,6 +1,6 @@
 -- What question 25 asks; what finish answers at the opening states, in terms of marks and cells: yes is about all of them, the lowest is found by a search, and on a
 -- table with every owner's cell filled each tells the other. The marks of state 0 alone. Assumes nothing.
-use Prim.Native.Nat.{ℕ, zero, suc, ◌<◌, ◌≤◌}
+use Prim.Native.Nat.{ℕ, zero, suc, ◌-◌, ◌<◌, ◌≤◌}
 use mathlib.Core.Path.{◌≡◌, refl, sym, ◌∙◌, ap}
 use mathlib.Core.Bool.{Bool, true, false, cond, not, ◌||◌}
 use mathlib.Core.List.{List}
@@ -12,8 +12,11 @@ use lib.Dec.{eqb, leb}
 use Rattle.law.specs.Bounded.{all}
 use Rattle.law.proofs.Bool.{split, clash, and_intro, and_left, and_right, or_left, or_right, or_cases, not_is_true, not_is_false, cond_true, cond_false}
 use Rattle.law.proofs.Bounded.{first_le, first_before, by_equal, first_passes, any_intro, all_intro, all_elim}
-use Rattle.job.specs.Job.{Job, size}
+use Rattle.job.specs.Job.{Job, size, subformula_count}
+use Rattle.job.specs.Written.{IsJob}
 use Rattle.cells.specs.Table.{Table}
+use Rattle.cells.proofs.Determined.{Filled}
+use Rattle.cells.proofs.Rounds.{Complete}
 use Rattle.cells.specs.Opening.{opens, are_marks, some_opening, whole_cell, yes, says_no, lowest_no, state0_alone}
 
 -- "S bytes of 0 or 1"
@@ -160,3 +163,11 @@ alone_yes J t some filled =
     (λ other.
     let never : yes J marks t ≡ 1 → ⊥ = λ one. other (yes_cells J marks t one 0 some first) in
     omega (arith, yes_low J marks t))
+
+-- On a complete table each state has a cell of the whole formula.
+pub whole_filled : (J : Job) (t : Table) → IsJob J → (s : ℕ) → s < size J → Complete J t → Filled (whole_cell J t s)
+unfolding whole_cell
+whole_filled J t job s state complete =
+    let some = job.subformulas.above in
+    let whole : subformula_count J - 1 < subformula_count J = omega arith in
+    complete s (subformula_count J - 1) state whole

@@ -61,10 +61,3 @@ module _ (J : Job) (t : Table) (long : length t ≡ table_length J) where
       let idle : exchange J t ≡ t = filled_none J t (exchange J t) (exchange_grown J t) (sym is ∙ none) in
       eq-eqb c 0 none ∙ sym (exchange_idle J t idle))
       (λ some. ne_eqb c 0 some ∙ sym not_h))
-
--- The front of a copy of a table is the table.
-pub copied_front :
-    (t copy before : List ℕ) (n : ℕ) → n ≡ length t → copy ≡ take (length t) t ++ drop (length t) before → take (n - 0) copy ≡ t
-copied_front t copy before n is copied =
-    let e : n - 0 ≡ length t = omega arith in
-    rw (e, copied, take-length t) (take-append_seam t (drop (length t) before))

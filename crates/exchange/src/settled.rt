@@ -13,10 +13,11 @@ fn is_idle(m: &Image, table: &[u8], copy: &mut [u8]) -> bool
     requires in_bounds { 65536 ≤ length copy.old }
     ensures { result ≡ settled_of (job_of m.now) table.now }
 {
-    let size = bytes::copy(table, copy);
+    let part = &mut copy[0..table.len()];
+    part.copy_from_slice(table);
     let mut stale = [1u8; 256];
     let mut news = [1u8; 32];
-    exchange(m, &mut copy[0..size], &mut stale, &mut news) == 0
+    exchange(m, part, &mut stale, &mut news) == 0
 }
 
 pub fn settled(m: &Image, table: &[u8]) -> bool

@@ -3,7 +3,7 @@ use Prim.Native.Nat.{ℕ, ◌<◌, ◌≤◌}
 use mathlib.Core.Path.{◌≡◌, sym, ◌∙◌, ap}
 use mathlib.Core.Bool.{Bool, true, false, not, ◌&&◌, ◌||◌}
 use native.Mathlib.Omega.{arith}
-use borrow.Author.Tests.{le-leb, lt-leb, not-true, not-false}
+use borrow.Author.Tests.{eq-eqb, ne_eqb, le-leb, lt-leb, not-true, not-false}
 use lib.ListN.{length, get_or}
 use lib.Dec.{leb, eqb}
 use Rattle.law.proofs.Bool.{contrapose, or_true}
@@ -22,11 +22,11 @@ module _ (J : Job) (n s p : ℕ) (is : p ≡ place_of J n s) where
   outside_is : eqb p 0 ≡ not (in_fragment J n s)
   outside_is = ap (λ x. eqb x 0) is ∙ place_outside J n s
 
-  pub place_out : eqb p 0 ≡ true → in_fragment J n s ≡ false
-  place_out e = not-true (in_fragment J n s) (sym outside_is ∙ e)
+  pub place_out : p ≡ 0 → in_fragment J n s ≡ false
+  place_out e = not-true (in_fragment J n s) (sym outside_is ∙ eq-eqb p 0 e)
 
-  pub place_in : eqb p 0 ≡ false → in_fragment J n s ≡ true
-  place_in e = not-false (in_fragment J n s) (sym outside_is ∙ e)
+  pub place_in : (p ≡ 0 → ⊥) → in_fragment J n s ≡ true
+  place_in e = not-false (in_fragment J n s) (sym outside_is ∙ ne_eqb p 0 e)
 
 -- One cell, by the code's tests.
 module _ (J : Job) (t : Table) (n s k v : ℕ) (is : v ≡ cell J t n s k) where

@@ -1,14 +1,14 @@
 -- The answer and the buffer, question by question, by what the lent lines hold. Assumes nothing.
 use Prim.Native.Nat.{ℕ, ◌<◌, ◌≤◌}
 use mathlib.Core.Path.{◌≡◌, sym, ap, subst, ◌∙◌}
-use mathlib.Core.Bool.{Bool, true, false, not}
+use mathlib.Core.Bool.{Bool, true, false}
 use mathlib.Core.List.{List, [], ◌∷◌, map, map-map}
 use mathlib.Core.Option as opt
 use native.Mathlib.Omega.{arith}
 use lib.ListN.{length, get_or, length-map, get_or-map}
 use lib.Seq.{sets}
 use lib.Dec.{leb}
-use borrow.Author.Tests.{leb-true, leb-false, not-true, not-false}
+use borrow.Author.Tests.{leb-true, leb-false}
 use Rattle.law.specs.Lists.{from, tab, flatten}
 use Rattle.law.proofs.Bool.{split}
 use Rattle.law.proofs.Lists.{tab_at}
@@ -42,13 +42,13 @@ refused_told x buffer number (told, left) = (sym told, sym left)
 
 -- What is known by whether the text was read.
 module _ (x : Text) (read : Bool) (m : List ℕ) (is : ReadsRule x read m) where
-  pub not_read : not read ≡ true → reading x ≡ opt.none
+  pub not_read : read ≡ false → reading x ≡ opt.none
   unfolding ReadsRule
-  not_read e = subst (λ b. ReadsRule x b m) (not-true read e) is
+  not_read e = subst (λ b. ReadsRule x b m) e is
 
-  pub read_tree : not read ≡ false → (f : Tree) × KeepsTree x f m
+  pub read_tree : read ≡ true → (f : Tree) × KeepsTree x f m
   unfolding ReadsRule
-  read_tree e = subst (λ b. ReadsRule x b m) (not-false read e) is
+  read_tree e = subst (λ b. ReadsRule x b m) e is
 
 -- An array of zeros holds no line.
 pub zeros_hold : (m : List ℕ) → length m ≡ 100 → get_or m 99 0 ≡ 0 → HoldsLines m × (held m ≡ [])

@@ -13,7 +13,7 @@ use Rattle.text.specs.Field.{Text}
 use Rattle.rule_text.specs.Tree.{Tree}
 use Rattle.rule_text.specs.Grammar.{whole_rule}
 use Rattle.rule_text.specs.Scan.{followed, tokens}
-use Rattle.rule_text.specs.Parse.{none, found, parse, expression, whole, reading}
+use Rattle.rule_text.specs.Parse.{found, parse, expression, whole, reading}
 use Rattle.rule_text.specs.declared.token.Token.{Token}
 use Rattle.rule_text.specs.declared.token.Token.TheVariants.{Atom, Prefix, Operator, Mark, Unknown}
 use Rattle.rule_text.proofs.Scanning.{tokens_empty, tokens_first}

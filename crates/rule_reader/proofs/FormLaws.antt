@@ -5,7 +5,6 @@ use mathlib.Core.Bool.{Bool, true, false, true≢false}
 use mathlib.Core.List.{List, [], ◌∷◌}
 use native.Mathlib.Omega.{arith}
 use borrow.Author.Tests.{ne_eqb}
-use types.Run.{miss}
 use Rattle.text.specs.Field.{Text}
 use Rattle.job.specs.Job.{for_all, exists}
 use Rattle.job.specs.Formula.{fields}
@@ -22,7 +21,7 @@ use Rattle.scanner.specs.Scanned.{NoToken, ended, not_known, StartsWith, Scans}
 use Rattle.scanner.specs.declared.scan.Scanned.{Scanned}
 use Rattle.rule_lines.specs.Held.{held, HoldsKept}
 use Rattle.rule_places.specs.Places.{Passes}
-use Rattle.rule_places.proofs.PlaceLaws.{tokens_from, CaseOf, known, scans_passes}
+use Rattle.rule_places.proofs.PlaceLaws.{tokens_from, known, scans_passes}
 use Rattle.rule_reader.specs.Reads.{prefix_kind, ReadsAs}
 use Rattle.rule_reader.specs.declared.parse.Part.{Part}
 use Rattle.rule_reader.specs.declared.parse.Operand.{Operand}
@@ -135,10 +134,10 @@ no_token_prefix ts ended = sym (closed_step [])
 no_token_prefix ts (not_known us) = refl
 
 prefix_closed :
-    (t : Token) (ts us : List Token) → CaseOf (0 ∷ 2 ∷ 3 ∷ 4 ∷ []) t → StartsWith t ts us → parse prefix_form ts ≡ parse closed_form ts
+    (t : Token) (ts us : List Token) → ((p : PrefixOperator) → t ≡ Prefix p → ⊥) → StartsWith t ts us → parse prefix_form ts ≡ parse closed_form ts
 unfolding StartsWith read_prefix
 prefix_closed (Atom j) ts us h s = prefix_step ts ∙ rw s
-prefix_closed (Prefix p) ts us h s = absurd (miss (0 ∷ 2 ∷ 3 ∷ 4 ∷ []) 1 tt h)
+prefix_closed (Prefix p) ts us h s = absurd (h p refl)
 prefix_closed (Operator o) ts us h s = prefix_step ts ∙ rw s
 prefix_closed (Mark c) ts us h s = prefix_step ts ∙ rw s
 prefix_closed Unknown ts us h s = prefix_step ts ∙ no_token_prefix ts s
@@ -146,7 +145,7 @@ prefix_closed Unknown ts us h s = prefix_step ts ∙ no_token_prefix ts s
 module _ (x : Text) (at : ℕ) (s : Scanned) (is : Scans x at s) (ls : List (List ℕ)) where
   pub reads_closed :
       (r : Operand) (after : List ℕ)
-      → CaseOf (0 ∷ 2 ∷ 3 ∷ 4 ∷ []) s.token
+      → ((p : PrefixOperator) → s.token ≡ Prefix p → ⊥)
       → ReadsAs x (suc at) (parse closed_form (tokens_from x at)) ls r after
       → ReadsAs x (suc at) (parse prefix_form (tokens_from x at)) ls r after
   reads_closed r after h = reads_is x (suc at) ls _ _ r after (prefix_closed s.token _ _ h is.starts)

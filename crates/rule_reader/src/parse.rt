@@ -49,7 +49,7 @@ fn until_kind(all: bool) -> usize
 }
 
 // An expression of operators that are at least so strong.
-#[cycle(closed_form_expression_marked_form_parenthesized_prefix_form_until_form)]
+#[cycle(form)]
 pub fn expression(text: &[u8], at: usize, least: usize, lines: &mut [usize]) -> Operand
     requires { (at ≤ length text.now) × HoldsLines lines.old }
     ensures { ReadsAs text.now (suc at) (reads.parse (reads.expression least) (tokens (drop at text.now)))
@@ -79,7 +79,7 @@ pub fn expression(text: &[u8], at: usize, least: usize, lines: &mut [usize]) -> 
 }
 
 // A closed form behind prefix operators.
-#[cycle(closed_form_expression_marked_form_parenthesized_prefix_form_until_form)]
+#[cycle(form)]
 fn prefix_form(text: &[u8], at: usize, lines: &mut [usize]) -> Operand
     requires { (at ≤ length text.now) × HoldsLines lines.old }
     ensures { ReadsAs text.now (suc at) (reads.parse reads.prefix_form (tokens (drop at text.now)))
@@ -101,7 +101,7 @@ fn prefix_form(text: &[u8], at: usize, lines: &mut [usize]) -> Operand
 }
 
 // A closed form: an atom, or what starts with `(`, `A` or `E`.
-#[cycle(closed_form_expression_marked_form_parenthesized_prefix_form_until_form)]
+#[cycle(form)]
 fn closed_form(text: &[u8], at: usize, lines: &mut [usize]) -> Operand
     requires { (at ≤ length text.now) × HoldsLines lines.old }
     ensures { ReadsAs text.now (suc at) (reads.parse reads.closed_form (tokens (drop at text.now)))
@@ -122,7 +122,7 @@ fn closed_form(text: &[u8], at: usize, lines: &mut [usize]) -> Operand
 }
 
 // A closed form behind its first mark.
-#[cycle(closed_form_expression_marked_form_parenthesized_prefix_form_until_form)]
+#[cycle(form)]
 fn marked_form(text: &[u8], at: usize, c: u8, lines: &mut [usize]) -> Operand
     requires { (at ≤ length text.now) × HoldsLines lines.old }
     ensures { ReadsAs text.now at (reads.parse reads.closed_form (token.Mark c ∷ tokens (drop at text.now)))
@@ -141,7 +141,7 @@ fn marked_form(text: &[u8], at: usize, c: u8, lines: &mut [usize]) -> Operand
 }
 
 // What stands behind `(`: an expression and `)`.
-#[cycle(closed_form_expression_marked_form_parenthesized_prefix_form_until_form)]
+#[cycle(form)]
 fn parenthesized(text: &[u8], at: usize, lines: &mut [usize]) -> Operand
     requires { (at ≤ length text.now) × HoldsLines lines.old }
     ensures { ReadsAs text.now at (reads.parse reads.parenthesized (tokens (drop at text.now)))
@@ -159,7 +159,7 @@ fn parenthesized(text: &[u8], at: usize, lines: &mut [usize]) -> Operand
 }
 
 // What stands behind `A` or `E`: `[`, two expressions with `U` between them, and `]`.
-#[cycle(closed_form_expression_marked_form_parenthesized_prefix_form_until_form)]
+#[cycle(form)]
 fn until_form(text: &[u8], at: usize, all: bool, lines: &mut [usize]) -> Operand
     requires { (at ≤ length text.now) × HoldsLines lines.old }
     ensures { ReadsAs text.now at (reads.parse (reads.until_form (quantifier all)) (tokens (drop at text.now)))

@@ -3,8 +3,7 @@ use Prim.Native.Nat.{ℕ, ◌<◌, ◌≤◌}
 use mathlib.Core.Path.{sym}
 use Rattle.job.specs.Job.{size}
 use Rattle.cells.specs.Opening.{whole_cell}
-use Rattle.cells.proofs.OpeningLaws.{none_yes, found_no}
-use Rattle.cells.proofs.Verdict.{whole_filled}
+use Rattle.cells.proofs.OpeningLaws.{none_yes, found_no, whole_filled}
 use Rattle.image.specs.Image.{job_of}
 use native.Mathlib.Omega.{arith}
 use borrow.Author.Rules.{rules}
@@ -16,7 +15,7 @@ module _ (c : After-states) where
   filled_here : (s : ℕ) → s < size (job_of c.args.m.now) → whole_cell (job_of c.args.m.now) c.args.table.now s ≤ 1
   filled_here s state =
       let lent = c.requires.lent in let long = c.requires.marks_len in let complete = c.requires.complete in
-      whole_filled _ lent.image.is_job _ s state complete
+      whole_filled _ _ lent.image.is_job s state complete
 
 pub returns-then-lowest-states : goal.returns-then-lowest-states
 returns-then-lowest-states c =

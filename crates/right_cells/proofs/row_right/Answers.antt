@@ -24,7 +24,7 @@ pub returns-then-outside : goal.returns-then-outside
 returns-then-outside c =
     row_no _ _ _ _ c.loop-k.k (search rules)
     (right_outside _ _ _ _ _ _ c.cell-v.ensures c.if-v-lt2.true
-    (place_out _ _ _ _ c.place-outside.ensures c.if-outside.true-raw))
+    (place_out _ _ _ _ c.place-outside.ensures c.if-outside.true))
 
 pub loop-k-preserved : goal.loop-k-preserved
 loop-k-preserved c =
@@ -35,9 +35,9 @@ loop-k-preserved c =
           (⊎_elim
           (λ h.
           right_inside _ _ _ _ _ _ c.cell-v.ensures c.if-v-gt2.false
-          (place_in _ _ _ _ c.place-outside.ensures h.1.left))
-          (λ h. right_empty _ _ _ _ _ _ c.cell-v.ensures c.if-v-gt2.false h.left)
-          c.else-v-lt2.branch),
+          (place_in _ _ _ _ c.place-outside.ensures h.1))
+          (λ h. right_empty _ _ _ _ _ _ c.cell-v.ensures c.if-v-gt2.false h)
+          c.else-v-lt2.either),
     )
 
 pub returns : goal.returns

@@ -1,6 +1,5 @@
 -- `kind_of`: operator by operator.
 use mathlib.Core.Path.{sym, ap}
-use borrow.Author.Rules.{rules}
 use Rattle.rule_reader.specs.Reads.{prefix_kind}
 use Rattle.rule_reader.proofs.parse.kind_of.Goals as goal
 

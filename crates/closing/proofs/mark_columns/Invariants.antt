@@ -1,0 +1,14 @@
+-- `mark_columns`: the nodes passed so far are marked.
+use Prim.Native.Nat.{◌-◌, ◌≤◌}
+use mathlib.Core.Path.{◌≡◌}
+use Rattle.cells.specs.Rest.{column_byte, BytesAre}
+use Rattle.cells.proofs.Tracked.{bytes_none, bytes_more}
+use Rattle.image.specs.Image.{job_of}
+use native.Mathlib.Omega.{arith}
+use Rattle.closing.proofs.mark_columns.Given as goal
+
+abbrev pub invariant-loop-node : goal.invariant-loop-node
+invariant-loop-node l = (l.node ≤ l.node-end) × BytesAre (λ i. column_byte i l.k) 1 l.node l.initial.stale l.stale
+
+abbrev pub decreases-loop-node : goal.decreases-loop-node
+decreases-loop-node l = l.node-end - l.node

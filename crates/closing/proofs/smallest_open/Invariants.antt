@@ -1,0 +1,32 @@
+-- `smallest_open`: no subformula passed so far is open.
+use Prim.Native.Nat.{ℕ, ◌-◌, ◌<◌, ◌≤◌}
+use mathlib.Core.Path.{◌≡◌, sym, ◌∙◌}
+use mathlib.Core.Bool.{false}
+use Rattle.job.specs.Job.{size, subformula_count}
+use Rattle.cells.specs.Table.{is_empty, owner_cell}
+use Rattle.cells.specs.Close.{open?}
+use Rattle.cells.proofs.Fill.{not_empty}
+use Rattle.image.specs.Image.{job_of}
+use Rattle.closing.proofs.ClosingLaws.{open_here, open_nowhere, smallest_open_is, smallest_none}
+use native.Mathlib.Omega.{arith}
+use Rattle.closing.proofs.smallest_open.Given as goal
+
+abbrev pub invariant-loop-s : goal.invariant-loop-s
+invariant-loop-s l =
+    (l.s ≤ l.s-end) × (l.s-end ≡ size (job_of l.m)) × ((u : ℕ) → u < l.s → is_empty (owner_cell (job_of l.m) l.table u l.k) ≡ false)
+
+abbrev pub decreases-loop-s : goal.decreases-loop-s
+decreases-loop-s l = l.s-end - l.s
+
+abbrev pub invariant-loop-k : goal.invariant-loop-k
+invariant-loop-k l =
+    (l.k ≤ l.k-end) × (l.k-end ≡ subformula_count (job_of l.m)) × ((j : ℕ) → j < l.k → open? (job_of l.m) l.table j ≡ false)
+
+abbrev pub decreases-loop-k : goal.decreases-loop-k
+decreases-loop-k l = l.k-end - l.k
+
+abbrev pub invariant-search : goal.invariant-search
+invariant-search l = Unit
+
+abbrev pub decreases-search : goal.decreases-search
+decreases-search l = 0

@@ -1,0 +1,16 @@
+-- `lay_fragment`: the states passed so far have their places, and those of the fragment are listed.
+use Prim.Native.Nat.{◌-◌, ◌≤◌}
+use mathlib.Core.Path.{◌≡◌, sym, ap, ◌∙◌}
+use Rattle.job.specs.Job.{size}
+use Rattle.image.specs.Image.{job_of, rank}
+use Rattle.decoding.specs.Laid.{Chained, Listed}
+use Rattle.image.proofs.ImageLaws.{states_read}
+use Rattle.decoding.proofs.FragmentLaws.{listed_none, listed_on, listed_size, rank_none, rank_all, rank_few, chained_kept, chained_own}
+use native.Mathlib.Omega.{arith}
+use Rattle.decoding.proofs.decode.lay_fragment.Given as goal
+
+abbrev pub invariant-loop-s : goal.invariant-loop-s
+invariant-loop-s l = (l.states ≤ 256) × (l.states ≡ size (job_of l.initial.m)) × (l.s ≤ l.states) × (l.found ≡ rank (job_of l.initial.m) l.n l.s) × Listed (job_of l.initial.m) l.n l.s l.found l.initial.m l.m
+
+abbrev pub decreases-loop-s : goal.decreases-loop-s
+decreases-loop-s l = l.states - l.s

@@ -1,0 +1,14 @@
+-- `node_read`: the owner where no node is named, or the node that is.
+use mathlib.Core.Path.{sym, ◌∙◌}
+use borrow.Author.Tests.{eq-eqb, ne_eqb}
+use Rattle.cells.specs.Calls.{node_read}
+use borrow.Author.Rules.{rules}
+use Rattle.questions.proofs.node_read.Goals as goal
+
+pub returns-then-n-eq-NO_NODE : goal.returns-then-n-eq-NO_NODE
+unfolding node_read
+returns-then-n-eq-NO_NODE c = c.owner.ensures.0 ∙ sym (simp (eq-eqb _ 255 c.if-n-eq-NO_NODE.true))
+
+pub returns : goal.returns
+unfolding node_read
+returns c = simp (ne_eqb _ 255 c.if-n-eq-NO_NODE.false)

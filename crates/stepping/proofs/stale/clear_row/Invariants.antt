@@ -1,0 +1,13 @@
+-- `clear_row`: the marks passed so far are gone.
+use Prim.Native.Nat.{◌-◌, ◌≤◌}
+use mathlib.Core.Path.{◌≡◌}
+use Rattle.cells.specs.Rest.{column_byte, BytesAre}
+use Rattle.cells.proofs.Tracked.{bytes_none, bytes_more}
+use native.Mathlib.Omega.{arith}
+use Rattle.stepping.proofs.stale.clear_row.Given as goal
+
+abbrev pub invariant-loop-k : goal.invariant-loop-k
+invariant-loop-k l = (l.k ≤ 32) × BytesAre (column_byte l.n) 0 l.k l.initial.stale l.stale
+
+abbrev pub decreases-loop-k : goal.decreases-loop-k
+decreases-loop-k l = 32 - l.k

@@ -1,0 +1,12 @@
+-- `meets`: the edges passed so far do not decide.
+use Prim.Native.Nat.{◌-◌, ◌≤◌}
+use Rattle.image.specs.Image.{job_of}
+use Rattle.values.proofs.ValueLaws.{Agreed, met_early, met_more, met_over}
+use native.Mathlib.Omega.{arith}
+use Rattle.values.proofs.value.meets.Given as goal
+
+abbrev pub invariant-loop-e : goal.invariant-loop-e
+invariant-loop-e l = (l.initial.e ≤ l.e) × Agreed (job_of l.m) l.table l.n l.a l.v l.all l.initial.e l.e
+
+abbrev pub decreases-loop-e : goal.decreases-loop-e
+decreases-loop-e l = l.end - l.e
