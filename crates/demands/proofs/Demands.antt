@@ -35,7 +35,7 @@ use Rattle.rule_text.proofs.Reading.{means_one}
 use Rattle.rule_text.proofs.RuleTruth.{rule_truth}
 use Rattle.rule_text.proofs.Prefixes.{prefix_means}
 use Rattle.rule_text.proofs.Worked.{example_rule, example_limits}
-use Rattle.promises.specs.Contracts.{Loan, Happens, Reads, HandsBack, Prints, Rules, PrintsRule, Pages, PrintsPage, MayHappen}
+use Rattle.promises.specs.CallContracts.{Loan, Happens, Reads, HandsBack, Prints, Rules, PrintsRule, Pages, PrintsPage, MayHappen}
 use Rattle.promises.specs.Demand1.{AnswersBy}
 use Rattle.promises.specs.Demand2.{Accepts, JobText, FilledByRules, SmallestAndLargest, Judged}
 use Rattle.promises.specs.Demand3.{FreshFor, ListOfCalls, left_by, calls_of, AsDefined, CellsTrue, OneMoreFinish, OneMachine}

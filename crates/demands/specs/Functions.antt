@@ -4,13 +4,13 @@ use contract.Lifetimes.{Lfts}
 use borrow.Fn.Kinds.{Dens}
 use Rattle.calls.proofs.read.read.Kinds.{ps as read_takes}
 use Rattle.calls.proofs.read.read.Reads.{Asked as read_asks}
-use Rattle.calls.proofs.read.read.Statement.{statement as read_Meets}
+use Rattle.calls.proofs.read.read.Statement.{statement as read_meets}
 use Rattle.calls.proofs.line.line.Kinds.{ps as line_takes}
 use Rattle.calls.proofs.line.line.Reads.{Asked as line_asks}
 use Rattle.calls.proofs.line.line.Statement.{statement as line_meets}
 use Rattle.calls.proofs.fresh.fresh.Kinds.{ps as fresh_takes}
 use Rattle.calls.proofs.fresh.fresh.Reads.{Asked as fresh_asks}
-use Rattle.calls.proofs.fresh.fresh.Statement.{statement as fresh_Meets}
+use Rattle.calls.proofs.fresh.fresh.Statement.{statement as fresh_meets}
 use Rattle.calls.proofs.step.step.Kinds.{ps as step_takes}
 use Rattle.calls.proofs.step.step.Reads.{Asked as step_asks}
 use Rattle.calls.proofs.step.step.Statement.{statement as step_meets}
@@ -65,9 +65,9 @@ pub record AsksNothing : Type 0 where
 -- "every call ends": each function meets its contract, in every model of Rattle's logic. To meet a contract is, called with what it asks
 -- for, to return, and to leave what it promises (total correctness).
 pub record Proved (M : Type 1) : Type 2 where
-  pub read : read_Meets M
+  pub read : read_meets M
   pub line : line_meets M
-  pub fresh : fresh_Meets M
+  pub fresh : fresh_meets M
   pub step : step_meets M
   pub offer : offer_meets M
   pub accept : accept_meets M

@@ -44,7 +44,7 @@ use Rattle.cells.proofs.Repeat.{by_sets_at}
 use Rattle.cells.proofs.Sets.{smallest_is, largest_is}
 use Rattle.cells.proofs.Settled.{settled_is}
 use Rattle.cells.proofs.Tells.{opposite_twice}
-use Rattle.promises.specs.Contracts.{Loan, Happens}
+use Rattle.promises.specs.CallContracts.{Loan, Happens}
 use Rattle.promises.specs.Demand2.{ruled}
 use Rattle.promises.specs.AllAlong.{FalseIn, TrueIn, FilledAllAlong, ClosesTo, six, seven, eight, nine, kind_of, ClosedByKind, admitted, kinds_admitted}
 use Rattle.promises.proofs.Contracts.{happens_defined}

@@ -21,7 +21,7 @@ use Rattle.cells.specs.Table.{Table, table_length}
 use Rattle.cells.specs.Close as closing
 use Rattle.cells.specs.Questions.{table_size, table_cells, node_below, numbers_below, truth_value, table_settled, some_owner_empty}
 use Rattle.cells.specs.Calls.{Call, fresh, step, offer, accept, close, finish, page, own_questions, questions, width, told, left, answer, after}
-use Rattle.promises.specs.Contracts.{Loan, Happens}
+use Rattle.promises.specs.CallContracts.{Loan, Happens}
 use Rattle.promises.specs.Demand1.{AnswersBy, reads, refuses}
 use Rattle.cells.proofs.CallLaws.{numbers_in}
 use Rattle.cells.proofs.Formed.{Formed, formed_is, is_formed_lem}

@@ -8,7 +8,6 @@ use lib.Seq.{take-length}
 use native.Mathlib.Nat.{le_refl}
 use mathlib.Core.Option as opt
 use native.Mathlib.Omega.{arith}
-use denote.Ref.{at_last}
 use Rattle.text.specs.Field.{Text}
 use Rattle.job.specs.Layout as layout
 use Rattle.job.specs.Job.{decode}
@@ -44,7 +43,7 @@ use Rattle.rule_call.specs.Ruled.{ruled_told}
 use Rattle.rule_call.specs.declared.rule.Ruled.{Ruled}
 use Rattle.rule_call.specs.declared.rule.Ruled.TheVariants as ruled
 use Rattle.rule_output.specs.RuleOutput.{rule_output}
-use Rattle.promises.specs.Contracts.{Loan, Pages, Happens, Reads, HandsBack, Prints, Rules, PrintsRule, PrintsPage, MayHappen}
+use Rattle.promises.specs.CallContracts.{Loan, Pages, Happens, Reads, HandsBack, Prints, Rules, PrintsRule, PrintsPage, MayHappen}
 
 module _ (l : Loan) (x : Text) where
   pub pages_defined :
@@ -254,10 +253,10 @@ module _ (l : Loan) (x : Text) where
       record {
         call = defined_happens;
         read = defined_reads;
-        line = λ n. (at_last l.text (part_of x n), refl, refl);
+        line = λ n. (record { ref_ptr = l.text.ref_ptr; now = part_of x n }, refl, refl);
         verdict = refl;
         rule = defined_rules;
         printed_rule = defined_prints_rule;
         page_written = defined_pages;
-        printed_page_lem = defined_prints_page;
+        printed_page = defined_prints_page;
       }

@@ -20,7 +20,7 @@ use Rattle.ctl.proofs.Truth.{holds_sat}
 use Rattle.cells.specs.Table.{Table, cell}
 use Rattle.cells.specs.Finish as finishing
 use Rattle.cells.specs.Calls.{told, answer, finish}
-use Rattle.promises.specs.Contracts.{Loan, Happens}
+use Rattle.promises.specs.CallContracts.{Loan, Happens}
 use Rattle.promises.specs.Demand2.{IsTruth}
 use Rattle.promises.specs.Demand3.{Happened, last_table, Meant, FreshFor, ListOfCalls, left_by, AsDefined, CellsTrue, Finishes, OneMoreFinish, OneMachine}
 use Rattle.cells.proofs.Tells.{Tells}

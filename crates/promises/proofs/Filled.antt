@@ -30,7 +30,7 @@ use Rattle.cells.proofs.Sets.{smallest_is, largest_is}
 use Rattle.cells.proofs.Repeat.{by_sets_filled, by_sets_border}
 use Rattle.cells.proofs.Tells.{by_cell}
 use Rattle.cells.proofs.Grown.{step_table_grown}
-use Rattle.promises.specs.Contracts.{Loan, Happens}
+use Rattle.promises.specs.CallContracts.{Loan, Happens}
 use Rattle.promises.specs.Demand2.{ruled, FilledByRules, SmallestAndLargest}
 use Rattle.promises.proofs.Contracts.{happens_defined}
 use Rattle.promises.proofs.Calls.{accepted_taken, taken_told, taken_left, taken_accepted}

@@ -24,7 +24,7 @@ use Rattle.cells.specs.AllAlong.{ring_job, implies_job}
 use Rattle.cells.proofs.CallLaws.{fresh_accepted}
 use Rattle.cells.proofs.Printed.{printed}
 use Rattle.page_text.specs.PageCall.{page_buffer}
-use Rattle.promises.specs.Contracts.{Loan, Happens, Pages}
+use Rattle.promises.specs.CallContracts.{Loan, Happens, Pages}
 use Rattle.promises.specs.Demand3.{Event, Happened, Message, handed_out, is_refused, is_meant, Meant, FreshFor, ListOfCalls, calls_of, OneMachine}
 use Rattle.promises.specs.AllAlong.{HasLine}
 use Rattle.promises.specs.OnPaper.{SameCells}
@@ -36,8 +36,8 @@ lent =
     record {
       lifetimes = ([], ([], ([], tt)));
       text = record { ref_ptr = (0, 0); now = [] };
-      table = record { ref_ptr = (0, 0); now = [] };
-      buffer = record { ref_ptr = (0, 0); now = [] };
+      table = record { ref_ptr = (0, 0); ghost_name = 0; now = [] };
+      buffer = record { ref_ptr = (0, 0); ghost_name = 0; now = [] };
     }
 
 -- a call with its text, and what comes of a list of them by the definitions

@@ -19,7 +19,7 @@ use Rattle.job.proofs.QuestionLaws.{by_refusal, answered_some}
 use Rattle.text.proofs.Line.{numbers_at, reads_numbers, line_reads}
 use Rattle.verdict_line.specs.VerdictLine.{verdict_line}
 use Rattle.verdict_line.proofs.ShortLaws.{answer_short}
-use Rattle.promises.specs.Contracts.{Loan, Prints}
+use Rattle.promises.specs.CallContracts.{Loan, Prints}
 use Rattle.promises.specs.Demand2.{Shows, Judged, as_refused, as_true}
 use Rattle.promises.proofs.Contracts.{prints_defined}
 use Rattle.promises.proofs.Ends.{sound_finishes}

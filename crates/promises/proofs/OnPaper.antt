@@ -34,7 +34,7 @@ use Rattle.page_text.specs.PageCall.{overwritten}
 use Rattle.page_text.proofs.PageLaws.{mark_empty, mark_filled, filled_ends, filled_columns, columns_few, page_length, page_filled, page_spaces, page_front, page_number, page_cell, page_mark, pages_cells, cells_pages, body_visible}
 use Rattle.page_text.proofs.BufferLaws.{buffer_stays, buffer_accepted}
 use Rattle.page_output.specs.PageOutput.{node_named, finished_table, room, printed, page_output}
-use Rattle.promises.specs.Contracts.{Loan, Pages, PrintsPage}
+use Rattle.promises.specs.CallContracts.{Loan, Pages, PrintsPage}
 use Rattle.promises.specs.Demand1.{AnswersBy}
 use Rattle.promises.specs.Demand2.{IsTruth}
 use Rattle.promises.specs.OnPaper.{IsLine, LinesOf, page_bytes, mark_at, PageWritten, SameCells, PagePrinted, as_refused, no_such_node, as_page}

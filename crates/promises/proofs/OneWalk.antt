@@ -20,7 +20,7 @@ use Rattle.layout.specs.Lines.{right_after}
 use Rattle.cells.specs.Cases.{bytes, job_v, job6}
 use Rattle.edge_pass.specs.EdgePass.{start, is_right, order_after, after, kept_after, kept_of, terminal_state, question6, question7}
 use Rattle.edge_pass.proofs.EdgePassLaws.{kept_marks, answer_6, answer_7}
-use Rattle.promises.specs.Contracts.{Loan, Reads}
+use Rattle.promises.specs.CallContracts.{Loan, Reads}
 use Rattle.promises.specs.Demand1.{AnswersBy}
 use Rattle.promises.specs.OneWalk.{first_five, LetThrough, walked_questions, bytes_kept, told, walked, lower_job, far_job, walks}
 use Rattle.promises.proofs.Contracts.{reads_defined}

@@ -9,7 +9,7 @@ use Rattle.job.specs.Questions.{text_questions, Accepted}
 use Rattle.job.specs.Read.{read_answer, header}
 use Rattle.job.proofs.QuestionLaws.{answered_none, accepted_none}
 use Rattle.job.proofs.Exact.{decode_is_job, written_decode, exact}
-use Rattle.promises.specs.Contracts.{Loan, Reads}
+use Rattle.promises.specs.CallContracts.{Loan, Reads}
 use Rattle.promises.specs.Demand1.{AnswersBy}
 use Rattle.promises.specs.Demand2.{JobText, Accepts}
 use Rattle.promises.proofs.Contracts.{reads_defined}

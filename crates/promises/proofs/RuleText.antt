@@ -29,7 +29,7 @@ use Rattle.rule_text.proofs.RuleJob.{rule_written, rule_accepted, rule_decoded, 
 use Rattle.rule_text.proofs.RuleCallLaws.{lines_text_length, rule_accepted_when, rule_accepted_only, rule_refused_stays, rule_same}
 use Rattle.rule_output.specs.RuleOutput.{buffer, typed}
 use Rattle.rule_output.proofs.PrintedLaws.{accepted_output, refused_output}
-use Rattle.promises.specs.Contracts.{Loan, Rules, PrintsRule}
+use Rattle.promises.specs.CallContracts.{Loan, Rules, PrintsRule}
 use Rattle.promises.specs.Demand1.{AnswersBy, reads, refuses}
 use Rattle.promises.specs.Demand2.{Accepts}
 use Rattle.promises.proofs.Contracts.{rules_defined, prints_rule_defined}

@@ -22,7 +22,7 @@ use Rattle.cells.specs.Questions.{table_size, table_cells, node_below, node_or25
 use Rattle.cells.specs.Calls.{Call, step, accept, look, page, node_read, own_questions, questions, width, told, answer}
 use Rattle.cells.proofs.CallLaws.{numbers_in}
 use Rattle.cells.proofs.FragmentLaws.{owns_intro, owned_inside}
-use Rattle.promises.specs.Contracts.{Loan, Happens}
+use Rattle.promises.specs.CallContracts.{Loan, Happens}
 use Rattle.promises.specs.Demand1.{AnswersBy, refuses}
 use Rattle.promises.specs.UnnamedNode.{unnamed_questions, unknown_node_questions}
 use Rattle.promises.proofs.Contracts.{happens_defined}

@@ -1,7 +1,7 @@
 -- Demand 3: "Whatever list of calls is made from a fresh table, refused ones and late, repeated, overtaken messages included: each call
 -- fills and answers as defined, every filled cell is the CTL truth, and one more finish answers the truth at state 0 within (empty
 -- cells + 1) rounds. So two cuttings of one job always agree." The words of it that `demands/proofs/Demands.antt` uses. What happens in a
--- call is said by its function's contract (`Contracts.antt`), what is defined by `cells/specs/Calls.antt`, truth by `ctl/specs/Truth.antt`.
+-- call is said by its function's contract (`CallContracts.antt`), what is defined by `cells/specs/Calls.antt`, truth by `ctl/specs/Truth.antt`.
 -- Assumes nothing.
 use Rattle.std.specs.Prelude.{ℕ, ◌+◌, ◌-◌, ◌<◌, ◌≤◌, ◌≡◌, get_or}
 use mathlib.Core.List.{List, [], ◌∷◌, ◌++◌, map, Memᴰ}
@@ -10,7 +10,7 @@ use Rattle.job.specs.Job.{decode, size, subformula_count}
 use Rattle.job.specs.Answer.{Answer, accepted, refused}
 use Rattle.cells.specs.Table.{Table, cell, empty_cells}
 use Rattle.cells.specs.Calls.{Call, fresh, step, offer, accept, look, close, finish, page, answer, after}
-use Rattle.promises.specs.Contracts.{Loan, Happens}
+use Rattle.promises.specs.CallContracts.{Loan, Happens}
 use Rattle.promises.specs.Demand2.{IsTruth}
 
 -- A call that was made: what it was lent and passed, what it answered, and the table that it left. Any text, any numbers.

@@ -1,4 +1,4 @@
-pub mod Contracts
+pub mod CallContracts
 pub mod Demand1
 pub mod Demand2
 pub mod Demand3

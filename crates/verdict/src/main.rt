@@ -1,12 +1,13 @@
 // Reads a job from standard input and prints what the library says of it. 25,878 bytes are enough to find any longer text wrong.
 #![tactic(auto)]
 
-use libc::{STDIN_FILENO, STDOUT_FILENO};
+use std::io;
+use std::io::Read;
 use verdict_line::verdict_line;
 
-fn main() {
-    let mut text = [0u8; 25878];
-    let n = io::read_full(STDIN_FILENO, &mut text);
-    let said = verdict_line(&text[..n]);
-    io::write_all(STDOUT_FILENO, &said);
+fn main(rt: HostRuntime) -> io::Result<()> {
+    let mut text = Vec::new(rt.alloc());
+    rt.stdin().take(25878).read_to_end(&mut text)?;
+    let said = verdict_line(&text);
+    rt.write_all(&said)
 }

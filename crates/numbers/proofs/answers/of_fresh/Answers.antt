@@ -1,0 +1,14 @@
+-- `of_fresh`: the numbers of either case.
+use mathlib.Core.Path.{sym, ap}
+use Rattle.job.specs.Answer.{numbers}
+use Rattle.calls.specs.Told.{fresh_told}
+use borrow.Author.Rules.{rules}
+use Rattle.numbers.proofs.answers.of_fresh.Goals as goal
+
+pub returns-in-Accepted : goal.returns-in-Accepted
+unfolding numbers fresh_told
+returns-in-Accepted c = sym (ap (λ r. numbers (fresh_told r)) c.in-Accepted.is)
+
+pub returns-in-Refused : goal.returns-in-Refused
+unfolding numbers fresh_told
+returns-in-Refused c = sym (ap (λ r. numbers (fresh_told r)) c.in-Refused.is)

@@ -1,0 +1,14 @@
+-- `selahmur_offer`: the numbers of the answer, and the table that `offer` leaves.
+use Rattle.selahmur.proofs.AnswerLaws.{stored_told}
+use borrow.Author.Rules.{rules}
+use Rattle.selahmur.proofs.message.selahmur_offer.Goals as goal
+
+pub returns : goal.returns
+returns c =
+    record {
+      told = stored_told c.args.out.now
+          c.of_offer.ensures
+          c.offer.ensures.told
+          c.store.ensures;
+      left = c.offer.ensures.left;
+    }

@@ -1,0 +1,14 @@
+-- `selahmur_finish`: the numbers of the answer, and the table that `finish` leaves.
+use Rattle.selahmur.proofs.AnswerLaws.{stored_told}
+use borrow.Author.Rules.{rules}
+use Rattle.selahmur.proofs.work.selahmur_finish.Goals as goal
+
+pub returns : goal.returns
+returns c =
+    record {
+      told = stored_told c.args.out.now
+          c.of_finish.ensures
+          c.finish.ensures.told
+          c.store.ensures;
+      left = c.finish.ensures.left;
+    }

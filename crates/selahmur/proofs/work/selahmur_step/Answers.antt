@@ -1,0 +1,14 @@
+-- `selahmur_step`: the numbers of the answer, and the table that `step` leaves.
+use Rattle.selahmur.proofs.AnswerLaws.{stored_told}
+use borrow.Author.Rules.{rules}
+use Rattle.selahmur.proofs.work.selahmur_step.Goals as goal
+
+pub returns : goal.returns
+returns c =
+    record {
+      told = stored_told c.args.out.now
+          c.of_step.ensures
+          c.step.ensures.told
+          c.store.ensures;
+      left = c.step.ensures.left;
+    }
