@@ -2,16 +2,16 @@
 // argument that is missing, or does not fit into two bytes, comes as an empty one, which names no node either.
 #![tactic(auto)]
 
+use input::fill;
 use page_output::page_output;
 use std::env::Env;
 use std::io;
-use std::io::Read;
 
 fn main(rt: HostRuntime) -> io::Result<()> {
     let mut argument = [0u8; 2];
     let named = rt.arg(1, &mut argument).unwrap_or(0);
-    let mut text = Vec::new(rt.alloc());
-    rt.stdin().take(25878).read_to_end(&mut text)?;
-    let said = page_output(&argument[..named], &text);
+    let mut text = [0u8; 25878];
+    let n = fill(&mut rt.stdin(), &mut text)?;
+    let said = page_output(&argument[..named], &text[..n]);
     rt.write_all(&said.bytes[..said.length])
 }
