@@ -18,8 +18,8 @@ what one call of `selahmur_read` takes, beside the reader of the plain program, 
 of `selahmur_page` on a fresh table, beside a plain one above that reader: the cost
 of many calls in one process, above that of one, for each of them.
 
-A PROGRAM is told by the name of its file; without any, all of target run: both of
-target/bin, and what `rt staticlib selahmur` writes.
+A PROGRAM is told by the name of its file; without any, all run that rt writes: by
+`rt run` in crates/verdict and crates/rule, and by `rt lib` in crates/selahmur.
 """
 
 from __future__ import annotations
@@ -274,7 +274,7 @@ class Table:
 class Jobs(Table):
     """The program `verdict`."""
 
-    program = "target/bin/verdict"
+    program = "crates/verdict/out/verdict"
     source = "plain.c"
     columns = ["job", "states", "rounds"]
     last = "growth"
@@ -317,7 +317,7 @@ class Texts(Table):
 class Rules(Texts):
     """The program `rule`."""
 
-    program = "target/bin/rule"
+    program = "crates/rule/out/rule"
     source = "plain_rule.c"
     columns = ["rule text", "bytes", "refusal", "lines"]
 
@@ -337,7 +337,7 @@ class Rules(Texts):
 class Calls(Texts):
     """A call of the library, many times in one process."""
 
-    program = "target/staticlib/libselahmur.a"
+    program = "crates/selahmur/out/libselahmur.a"
     function: str
     clock = "µs", 1e6
     timed_bytes = 20_000_000  # enough calls that starting a process is no matter

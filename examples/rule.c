@@ -1,8 +1,8 @@
 /*
  * A worked example for an exporter's author: a machine and a rule that is typed become a job, which is judged.
  *
- *     rt staticlib selahmur
- *     cc -std=c99 -Wall -Wextra -Iinclude examples/rule.c target/staticlib/libselahmur.a -o target/rule_example
+ *     (cd crates/selahmur && rt lib) && mkdir -p target
+ *     cc -std=c99 -Wall -Wextra -Iinclude examples/rule.c crates/selahmur/out/libselahmur.a -o target/rule_example
  *     target/rule_example examples/menu.job '!E[p0 => p0 U !E[p0 => p0 U p0]]'
  *
  * A job is a line of four numbers, a line for each state, a line for each edge, and the rule's lines. An exporter writes the states and edges

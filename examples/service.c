@@ -1,8 +1,8 @@
 /*
  * A worked example for whoever writes the service in C: judges a job as its workers would, call by call.
  *
- *     rt staticlib selahmur
- *     cc -std=c99 -Wall -Wextra -Iinclude examples/service.c target/staticlib/libselahmur.a -o target/service
+ *     (cd crates/selahmur && rt lib) && mkdir -p target
+ *     cc -std=c99 -Wall -Wextra -Iinclude examples/service.c crates/selahmur/out/libselahmur.a -o target/service
  *     target/service examples/menu.job
  *     target/service examples/menu.job 1
  *

@@ -1,8 +1,8 @@
 /*
  * selahmur.h: the eleven calls of Selahmur for programs in C.
  *
- *     rt staticlib selahmur                       writes target/staticlib/libselahmur.a
- *     cc -Iinclude service.c target/staticlib/libselahmur.a
+ *     (cd crates/selahmur && rt lib)              writes crates/selahmur/out/libselahmur.a
+ *     cc -Iinclude service.c crates/selahmur/out/libselahmur.a
  *
  * A job is a text: a state structure, a CTL formula and a cutting over nodes, the workers. Its table has one byte for each node, state and
  * subformula, nodes * states * subformulas in all (at most 65,536), and the cell of a node n, a state s and a subformula k is byte

@@ -3,7 +3,7 @@
     calls.py ARCHIVE [--seed N] [--count N]
     calls.py ARCHIVE --replay CASE
 
-ARCHIVE is target/staticlib/libselahmur.a.  Makes lists of calls through the
+ARCHIVE is crates/selahmur/out/libselahmur.a.  Makes lists of calls through the
 functions of include/selahmur.h, and after every call compares every number of
 the answer and every byte of the table with the model's.  The text has to stay,
 and so have the bytes around text, table and answer, and the answer's array

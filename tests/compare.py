@@ -139,15 +139,14 @@ def antt_part(part: Part) -> str:
 
 
 CASES_HEAD = """-- Written by compare.py: cases with the answers of the Python model.
-use Prim.Native.Nat.{ℕ}
-use mathlib.Core.List.{List, [], _∷_, map}
-use Rattle·text.specs.Field.{Text}
-use Rattle·job.specs.Answer.{numbers}
-use Rattle·job.specs.Read.{readAnswer, lineOf}
-use Rattle·cells·specs.specs.Table.{Table}
-use Rattle·cells·specs.specs.Calls.{Call, answer, after, width}
-use Rattle·cells·specs.specs.Calls as call
-use Rattle·cells·specs.specs.Cases.{bytes, answers}
+use Rattle.std.specs.Prelude.{ℕ, List, [], ◌∷◌, map}
+use Rattle.text.specs.Field.{Text}
+use Rattle.job.specs.Answer.{numbers}
+use Rattle.job.specs.Read.{read_answer, line_of}
+use Rattle.cells.specs.Table.{Table}
+use Rattle.cells.specs.Calls.{Call, answer, after, width}
+use Rattle.cells.specs.Calls as call
+use Rattle.cells.specs.Cases.{bytes, answers}
 
 pub record Trial : Type 0 where
   pub text : Text
@@ -159,41 +158,38 @@ pub record Trial : Type 0 where
   pub told : List (List ℕ)
   pub tables : List Table
 
-unfoldable pub tablesAfter : Text → Table → List Call → List Table
-tablesAfter x t [] = []
-tablesAfter x t (c ∷ cs) = after c x t ∷ tablesAfter x (after c x t) cs
+unfoldable pub tables_after : Text → Table → List Call → List Table
+tables_after x t [] = []
+tables_after x t (c ∷ cs) = after c x t ∷ tables_after x (after c x t) cs
 
 unfoldable pub recomputed : Trial → Trial
 recomputed c =
     record {
-      text = c .text;
-      start = c .start;
-      calls = c .calls;
-      lines = c .lines;
-      reads = numbers (readAnswer (c .text));
-      parts = map (lineOf (c .text)) (c .lines);
-      told = answers (c .text) (c .start) (c .calls);
-      tables = tablesAfter (c .text) (c .start) (c .calls);
+      text = c.text;
+      start = c.start;
+      calls = c.calls;
+      lines = c.lines;
+      reads = numbers (read_answer c.text);
+      parts = map (line_of c.text) c.lines;
+      told = answers c.text c.start c.calls;
+      tables = tables_after c.text c.start c.calls;
     }
 """
 
 
 ROUNDS = """-- Written by compare.py: the answer of finish from its rounds.
-use Prim.Native.Nat.{ℕ, zero, suc, _+_}
-use mathlib.Core.Path.{_≡_, refl, _∙_, ap}
-use mathlib.Core.Bool.{false}
-use mathlib.Core.List.{[], _∷_}
-use mathlib.Core.Option as opt
-use lib.Dec.{eqb}
-use Rattle·text.specs.Field.{Text}
-use Rattle·job.specs.Job.{decode}
-use Rattle·job.specs.Answer.{accepted}
-use Rattle·job.specs.Question.{refusal}
-use Rattle·job.proofs.QuestionLaws.{answered-none, afterwards-none}
-use Rattle·cells·specs.specs.Table.{Table, filled, emptyCells}
-use Rattle·cells·specs.specs.Finish.{Finished, round, roundsFrom, verdict}
-use Rattle·cells·specs.specs.Finish as finishing
-use Rattle·cells·specs.specs.Calls.{finish, questions, width, answer, after, told, left}
+use Rattle.std.specs.Prelude.{◌≡◌, ℕ, zero, suc, ◌+◌, false, eqb, [], ◌∷◌}
+use Rattle.std.proofs.Common.{refl, ◌∙◌, ap}
+use Rattle.std.proofs.Math.Option as opt
+use Rattle.text.specs.Field.{Text}
+use Rattle.job.specs.Job.{decode}
+use Rattle.job.specs.Answer.{accepted}
+use Rattle.job.specs.Question.{refusal}
+use Rattle.job.proofs.QuestionLaws.{answered_none, afterwards_none}
+use Rattle.cells.specs.Table.{Table, filled, empty_cells}
+use Rattle.cells.specs.Finish.{Finished, round, rounds_from, verdict}
+use Rattle.cells.specs.Finish as finishing
+use Rattle.cells.specs.Calls.{finish, questions, width, answer, after, told, left}
 
 abbrev finished : Table → ℕ → ℕ → Finished
 finished t r c = record { table = t; rounds = r; cells = c }
@@ -204,42 +200,42 @@ IsRound x t u c = (round (decode x) t ≡ u) × (filled t u ≡ c)
 
 -- At most n rounds, and one, of t: r rounds that fill c cells and come to u.
 abbrev pub Rounds : Text → ℕ → Table → Table → ℕ → ℕ → Type 0
-Rounds x n t u r c = roundsFrom (decode x) n t ≡ finished u r c
+Rounds x n t u r c = rounds_from (decode x) n t ≡ finished u r c
 
 -- What finish has to know besides.
 abbrev pub Asked : Text → Table → Table → ℕ → ℕ → Type 0
-Asked x t u n v = (refusal (questions finish x t) ≡ opt.none) × (emptyCells (decode x) t ≡ n) × (verdict (decode x) u ≡ v)
+Asked x t u n v = (refusal (questions finish x t) ≡ opt.none) × (empty_cells (decode x) t ≡ n) × (verdict (decode x) u ≡ v)
 
 abbrev pub Answer : Text → Table → Table → ℕ → ℕ → ℕ → Type 0
 Answer x t u v r c = (answer finish x t ≡ accepted (v ∷ r ∷ c ∷ [])) × (after finish x t ≡ u)
 
 module _ (x : Text) where
-  pub last-round : (n : ℕ) (t u : Table) → IsRound x t u 0 → Rounds x n t u 1 0
-  unfolding roundsFrom
-  last-round zero t u (e, none) = rw e (rw none refl)
-  last-round (suc n) t u (e, none) = rw e (rw none refl)
+  pub last_round : (n : ℕ) (t u : Table) → IsRound x t u 0 → Rounds x n t u 1 0
+  unfolding rounds_from
+  last_round zero t u (e, none) = rw e (rw none refl)
+  last_round (suc n) t u (e, none) = rw e (rw none refl)
 
-  pub more-rounds :
+  pub more_rounds :
       (n : ℕ) (t u v : Table) (r c d : ℕ)
       → IsRound x t u c
       → eqb c 0 ≡ false
       → Rounds x n u v r d
       → Rounds x (suc n) t v (suc r) (c + d)
-  unfolding roundsFrom
-  more-rounds n t u v r c d (e, count) some later = rw e (rw count (rw some (rw later refl)))
+  unfolding rounds_from
+  more_rounds n t u v r c d (e, count) some later = rw e (rw count (rw some (rw later refl)))
 
-  pub finish-answer : (t u : Table) (n v r c : ℕ) → Asked x t u n v → Rounds x n t u r c → Answer x t u v r c
+  pub finish_answer : (t u : Table) (n v r c : ℕ) → Asked x t u n v → Rounds x n t u r c → Answer x t u v r c
   unfolding answer after told left finishing.finish
-  finish-answer t u n v r c (asked, empty, value) rounds =
-      let done : finishing.finish (decode x) t ≡ finished u r c = ap (λ m. roundsFrom (decode x) m t) empty ∙ rounds in
-      (answered-none (questions finish x t) (width finish) (told finish (decode x) t) asked
-      ∙ ap (λ F. accepted (verdict (decode x) (F .table) ∷ F .rounds ∷ F .cells ∷ [])) done
+  finish_answer t u n v r c (asked, empty, value) rounds =
+      let done : finishing.finish (decode x) t ≡ finished u r c = ap (λ m. rounds_from (decode x) m t) empty ∙ rounds in
+      (answered_none (questions finish x t) (width finish) (told finish (decode x) t) asked
+      ∙ ap (λ F. accepted (verdict (decode x) F.table ∷ F.rounds ∷ F.cells ∷ [])) done
       ∙ ap (λ w. accepted (w ∷ r ∷ c ∷ [])) value,
-      afterwards-none (questions finish x t) t (left finish (decode x) t) asked ∙ ap (λ F. F .table) done)
+      afterwards_none (questions finish x t) t (left finish (decode x) t) asked ∙ ap (λ F. F.table) done)
 """
 
 
-ROUND_NAMES = "IsRound, Rounds, Asked, Answer, last-round, more-rounds, finish-answer"
+ROUND_NAMES = "IsRound, Rounds, Asked, Answer, last_round, more_rounds, finish_answer"
 
 
 class WrittenFinish:
@@ -248,8 +244,8 @@ class WrittenFinish:
     def __init__(self, finish: LongFinish, name: str) -> None:
         self.finish = finish
         self.name = name
-        self.text = f"{name}-text"
-        self.tables = [f"{name}-table{i}" for i in range(len(finish.tables))]
+        self.text = f"{name}_text"
+        self.tables = [f"{name}_table{i}" for i in range(len(finish.tables))]
         self.last = self.tables[-1]
 
     def definitions(self) -> dict[str, str]:
@@ -265,7 +261,7 @@ class WrittenFinish:
         after = [*self.tables[1:], self.last]
         for i, (t, u, filled) in enumerate(zip(self.tables, after, self.finish.filled())):
             yield antt_law(
-                f"{self.name}-round{i}",
+                f"{self.name}_round{i}",
                 f"IsRound {self.text} {t} {u} {filled}",
                 "(refl, refl)",
                 unfolding,
@@ -278,18 +274,18 @@ class WrittenFinish:
         """The rounds from each table on, from the last back."""
         filled, fuel = self.finish.filled(), self.finish.empty()
         for i in reversed(range(len(filled))):
-            t, more, here = self.tables[i], len(filled) - i - 1, f"{self.name}-round{i}"
-            proof = f"last-round {self.text} {fuel - i} {t} {t} {here}"
+            t, more, here = self.tables[i], len(filled) - i - 1, f"{self.name}_round{i}"
+            proof = f"last_round {self.text} {fuel - i} {t} {t} {here}"
             if more:
                 proof = (
-                    f"more-rounds {self.text} {fuel - i - 1} {t} {self.tables[i + 1]} "
+                    f"more_rounds {self.text} {fuel - i - 1} {t} {self.tables[i + 1]} "
                     f"{self.last} {more} {filled[i]} {sum(filled[i + 1 :])} "
-                    f"{here} refl {self.name}-from{i + 1}"
+                    f"{here} refl {self.name}_from{i + 1}"
                 )
             statement = (
                 f"Rounds {self.text} {fuel - i} {t} {self.last} {more + 1} {sum(filled[i:])}"
             )
-            yield antt_law(f"{self.name}-from{i}", statement, proof)
+            yield antt_law(f"{self.name}_from{i}", statement, proof)
 
     def answer(self, unfolding: str) -> Iterator[str]:
         """The whole answer."""
@@ -297,17 +293,17 @@ class WrittenFinish:
         ends = f"{self.text} {self.tables[0]} {self.last}"
         fuel = self.finish.empty()
         yield antt_law(
-            f"{self.name}-asked",
+            f"{self.name}_asked",
             f"Asked {ends} {fuel} {verdict}",
             "(refl, refl, refl)",
             unfolding,
             *ends.split(),
         )
         yield antt_law(
-            f"{self.name}-answer",
+            f"{self.name}_answer",
             f"Answer {ends} {verdict} {rounds} {cells}",
-            f"finish-answer {ends} {fuel} {verdict} {rounds} {cells} "
-            f"{self.name}-asked {self.name}-from0",
+            f"finish_answer {ends} {fuel} {verdict} {rounds} {cells} "
+            f"{self.name}_asked {self.name}_from0",
         )
 
 
@@ -336,7 +332,7 @@ class Jobs(Crate[Trial]):
             laws += written.rounds(self.unfolding)
             laws += written.sums()
             laws += written.answer(self.unfolding)
-        rounds = f"use Rattle·cells·proofs.proofs.RandomRounds.{{{ROUND_NAMES}}}"
+        rounds = f"use Rattle.cells.proofs.RandomRounds.{{{ROUND_NAMES}}}"
         self.put_cases(defined, laws, (rounds,))
 
     def told(self, case: Trial) -> list[str]:

@@ -81,15 +81,13 @@ def missing(papers: list[PageTrial]) -> list[str]:
 
 
 CASES_HEAD = """-- Written by compare_pages.py: cases with the Python model's answers.
-use Prim.Native.Nat.{ℕ}
-use mathlib.Core.List.{List, [], _∷_, _++_}
-use lib.ListN.{length, replicate}
-use Rattle·text.specs.Field.{Text}
-use Rattle·job.specs.Answer.{numbers}
-use Rattle·cells.specs.Table.{Table}
-use Rattle·cells.specs.Calls.{answer, page}
-use Rattle·cells.specs.Cases.{bytes}
-use Rattle·page_text·specs.specs.PageCall.{pageBuffer}
+use Rattle.std.specs.Prelude.{ℕ, List, [], ◌∷◌, ◌++◌, length, replicate}
+use Rattle.text.specs.Field.{Text}
+use Rattle.job.specs.Answer.{numbers}
+use Rattle.cells.specs.Table.{Table}
+use Rattle.cells.specs.Calls.{answer, page}
+use Rattle.cells.specs.Cases.{bytes}
+use Rattle.page_text.specs.PageCall.{page_buffer}
 
 pub record Trial : Type 0 where
   pub text : Text
@@ -102,13 +100,13 @@ pub record Trial : Type 0 where
 unfoldable pub recomputed : Trial → Trial
 recomputed c =
     record {
-      text = c .text;
-      table = c .table;
-      node = c .node;
-      buffer = c .buffer;
+      text = c.text;
+      table = c.table;
+      node = c.node;
+      buffer = c.buffer;
       told =
-          numbers (answer (page (c .node) (length (c .buffer))) (c .text) (c .table));
-      after = pageBuffer (c .text) (c .table) (c .node) (c .buffer);
+          numbers (answer (page c.node (length c.buffer)) c.text c.table);
+      after = page_buffer c.text c.table c.node c.buffer;
     }
 """
 

@@ -96,12 +96,10 @@ def missing(trials: list[RuleTrial]) -> list[str]:
 
 
 CASES_HEAD = """-- Written by compare_rules.py: cases with the answers of the Python model.
-use Prim.Native.Nat.{ℕ}
-use mathlib.Core.List.{List, [], _∷_}
-use lib.ListN.{replicate}
-use Rattle·text.specs.Field.{Text}
-use Rattle·job.specs.Answer.{numbers}
-use Rattle·rule_text·specs.specs.RuleCall.{ruleAnswer, ruleBuffer}
+use Rattle.std.specs.Prelude.{ℕ, List, [], ◌∷◌, replicate}
+use Rattle.text.specs.Field.{Text}
+use Rattle.job.specs.Answer.{numbers}
+use Rattle.rule_text.specs.RuleCall.{rule_answer, rule_buffer}
 
 pub record Trial : Type 0 where
   pub text : Text
@@ -112,10 +110,10 @@ pub record Trial : Type 0 where
 unfoldable pub recomputed : Trial → Trial
 recomputed c =
     record {
-      text = c .text;
-      buffer = c .buffer;
-      told = numbers (ruleAnswer (c .text) (c .buffer));
-      after = ruleBuffer (c .text) (c .buffer);
+      text = c.text;
+      buffer = c.buffer;
+      told = numbers (rule_answer c.text c.buffer);
+      after = rule_buffer c.text c.buffer;
     }
 """
 

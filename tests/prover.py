@@ -2,8 +2,9 @@
 
 The cases are written as lists into CLONE/crates/CRATE/proofs/ (`RandomCases.antt`,
 and `Random.antt` with one proposition for several cases: what the definitions
-compute equals what the model said, by `refl`), and `rt dev CRATE` is run there.
-A batch that is not proved is halved until the cases that differ are found.
+compute equals what the model said, by `refl`), and `rt check` is run in that
+crate's folder, over what earlier checks kept.  A batch that is not proved is
+halved until the cases that differ are found.
 
 Every definition of the crates that are named can be computed: all that these
 declare as `unfoldable pub` is unfolded.
@@ -11,7 +12,6 @@ declare as `unfoldable pub` is unfolded.
 
 from __future__ import annotations
 
-import os
 import pathlib
 import random
 import re
@@ -83,23 +83,21 @@ class Crate(Generic[Case]):
         self.clone = clone
         self.proofs = clone / "crates" / self.name / "proofs"
         self.uses = [
-            "use mathlib.Core.Path.{_≡_, refl}",
-            "use mathlib.Core.List.{map}",
-            "use mathlib.Core.Option.{Option·elim}",
+            "use Rattle.std.specs.Prelude.{◌≡◌, map, refl}",
+            "use Rattle.std.proofs.Math.Option.{Option-elim}",
         ]
-        self.unfolding = "unfolding Option·elim"
+        self.unfolding = "unfolding Option-elim"
         for crate in [*self.below, self.name]:
             self.unfold(crate)
         self.helpers = re.findall(r"^unfoldable pub (\S+)", self.head, re.M)
 
     def unfold(self, crate: str) -> None:
         """Import and unfold the definitions of a crate."""
-        own = "·specs" if crate == self.name else ""
         for path in sorted((self.clone / "crates" / crate / "specs").glob("*.antt")):
             for name in re.findall(r"^ *unfoldable pub (\S+)", path.read_text(), re.M):
-                alias = f"{crate}-{path.stem}-{name}"
+                alias = f"{crate}_{path.stem.lower()}_{name}"
                 self.uses.append(
-                    f"use Rattle·{crate}{own}.specs.{path.stem}.{{{name} as {alias}}}"
+                    f"use Rattle.{crate}.specs.{path.stem}.{{{name} as {alias}}}"
                 )
                 self.unfolding += f" {alias}"
 
@@ -119,7 +117,7 @@ class Crate(Generic[Case]):
             defined[name] = antt_definition(name, "List Trial", antt_list(group))
             statement = f"map recomputed {name} ≡ {name}"
             unfolding = [self.unfolding, *self.helpers, name]
-            laws.append(antt_law(f"proved-{name}", statement, "refl", *unfolding))
+            laws.append(antt_law(f"proved_{name}", statement, "refl", *unfolding))
         return defined, laws
 
     def put_cases(
@@ -128,7 +126,7 @@ class Crate(Generic[Case]):
         """Definitions, by name, and propositions about them."""
         self.put("RandomCases", [self.head, *defined.values()])
         names = ", ".join([*self.helpers, *defined])
-        own = f"use Rattle·{self.name}·proofs.proofs.RandomCases.{{{names}}}"
+        own = f"use Rattle.{self.name}.proofs.RandomCases.{{{names}}}"
         about = "-- Written by prover.py: the definitions give what the model gave."
         self.put("Random", [about, *self.uses, own, *uses, *laws])
 
@@ -141,15 +139,14 @@ class Crate(Generic[Case]):
         raise NotImplementedError
 
     def check(self, batch: list[Case]) -> tuple[int, str]:
-        """The exit status of `rt dev` with these cases (0: all proved, 1: some
+        """The exit status of `rt check` with these cases (0: all proved, 1: some
         case differs, 3: no verdict, for too long), and what it printed."""
         self.write(batch)
         ran = subprocess.run(
-            ["rt", "dev", self.name],
-            cwd=self.clone,
+            ["rt", "check"],
+            cwd=self.proofs.parent,
             capture_output=True,
             text=True,
-            env={**os.environ, "RT_CUT": "0", "RT_JOBS": "1"},
         )
         return ran.returncode, f"exit {ran.returncode}\n{ran.stdout}{ran.stderr}"
 

@@ -10,7 +10,7 @@ use lib.ListN.{get_or}
 use Rattle.law.specs.Fixpoint.{member}
 use Rattle.law.proofs.Bool.{split, clash}
 use Rattle.law.proofs.Bounded.{by_equal}
-use Rattle.job.specs.Job.{Job, Quantifier, edge, size, owner}
+use Rattle.job.specs.Job.{Job, Quantifier, size, owner}
 use Rattle.job.specs.Written.{IsJob}
 use Rattle.ctl.specs.Labelling.{reached}
 use Rattle.ctl.proofs.Reached.{reached_state}

@@ -1,4 +1,5 @@
 pub mod Printed
+pub mod SetForms
 pub mod Sets
 pub mod Index
 pub mod Fill

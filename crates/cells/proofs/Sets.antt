@@ -17,30 +17,9 @@ use Rattle.cells.specs.Fragment.{border, inner}
 use Rattle.cells.specs.Table.{is_empty}
 use Rattle.cells.specs.SetRule.{SetRule, joins, smallest, stays, largest}
 use Rattle.cells.specs.Sets.{Joins, already, starts, grows, IsSmallest, Stays, other, blocked, follows, IsLargest}
+use Rattle.cells.proofs.SetForms.{joins_monotone, joins_intro, stays_monotone, stays_intro}
 
 module _ (J : Job) (n : ℕ) (own : ℕ → ℕ) (R : SetRule) where
-  pub joins_monotone : Monotone (joins J n own R)
-  unfolding joins
-  joins_monotone X Y inside s =
-      let M = J.structure in
-      let q = R.quantifier in
-      let b = eqb (R.start s) 1 in
-      let a = eqb (R.grow s) 1 in
-      let free = is_empty (own s) && inner J n s in
-      or_mono (eqb (own s) R.value) (free && (b || (a && over M q s X))) (free && (b || (a && over M q s Y)))
-      (and_mono free (b || (a && over M q s X)) (b || (a && over M q s Y))
-      (or_mono b (a && over M q s X) (a && over M q s Y)
-      (and_mono a (over M q s X) (over M q s Y) (over_mono M q s X Y inside))))
-
-  pub joins_intro : (X : ℕ → Bool) (s : ℕ) → Joins J n own R X s → joins J n own R X s ≡ true
-  unfolding joins is_empty
-  joins_intro X s (already v) = simp (eq-eqb (own s) R.value v)
-  joins_intro X s (starts e i b) =
-      or_right (eqb (own s) R.value) _ (simp (eq-eqb (own s) 2 e, i, eq-eqb (R.start s) 1 b))
-  joins_intro X s (grows e i a o) =
-      or_right (eqb (own s) R.value) _
-      (simp (eq-eqb (own s) 2 e, i, eq-eqb (R.grow s) 1 a, o) (or_right (eqb (R.start s) 1) true refl))
-
   pub joins_reason : (X : ℕ → Bool) (s : ℕ) → joins J n own R X s ≡ true → Joins J n own R X s
   unfolding joins is_empty
   joins_reason X s h =
@@ -75,39 +54,18 @@ module _ (J : Job) (n : ℕ) (own : ℕ → ℕ) (R : SetRule) where
   smallest_is =
       let r = joins J n own R in
       let L = member (least r (size J)) in
-      let reason : (s : ℕ) → L s ≡ true → Joins J n own R L s = λ s e. joins_reason L s (least_rule r (size J) joins_monotone s e) in
+      let reason : (s : ℕ) → L s ≡ true → Joins J n own R L s = λ s e. joins_reason L s (least_rule r (size J) (joins_monotone J n own R) s e) in
       record {
         states = least_bound r (size J);
-        joined = λ s l why. least_closed r (size J) joins_monotone s l (joins_intro L s why);
+        joined = λ s l why. least_closed r (size J) (joins_monotone J n own R) s l (joins_intro J n own R L s why);
         reason = reason;
         no_other = λ s apart filled. split (L s) (λ e. absurd (joins_own L s apart filled (reason s e))) (λ f. f);
         border_value = λ s border e. joins_border L s border (reason s e);
         within_each =
-            λ Y closed. least_inside r (size J) joins_monotone Y (λ s l h. closed s l (joins_reason Y s h));
+            λ Y closed. least_inside r (size J) (joins_monotone J n own R) Y (λ s l h. closed s l (joins_reason Y s h));
       }
 
 module _ (J : Job) (n : ℕ) (own : ℕ → ℕ) (R : SetRule) (L : List Bool) where
-  pub stays_monotone : Monotone (stays J n own R L)
-  unfolding stays
-  stays_monotone X Y inside s =
-      let M = J.structure in
-      let q = dual R.quantifier in
-      let a = eqb (R.grow s) 0 in
-      let free = is_empty (own s) && not (member L s) && inner J n s && eqb (R.start s) 0 in
-      or_mono (eqb (own s) (1 - R.value)) (free && (a || over M q s X)) (free && (a || over M q s Y))
-      (and_mono free (a || over M q s X) (a || over M q s Y)
-      (or_mono a (over M q s X) (over M q s Y) (over_mono M q s X Y inside)))
-
-  pub stays_intro : (X : ℕ → Bool) (s : ℕ) → Stays J n own R L X s → stays J n own R L X s ≡ true
-  unfolding stays is_empty
-  stays_intro X s (other v) = simp (eq-eqb (own s) (1 - R.value) v)
-  stays_intro X s (blocked e l i b a) =
-      or_right (eqb (own s) (1 - R.value)) _
-      (simp (eq-eqb (own s) 2 e, l, i, eq-eqb (R.start s) 0 b, eq-eqb (R.grow s) 0 a))
-  stays_intro X s (follows e l i b o) =
-      or_right (eqb (own s) (1 - R.value)) _
-      (simp (eq-eqb (own s) 2 e, l, i, eq-eqb (R.start s) 0 b, o) (or_right (eqb (R.grow s) 0) true refl))
-
   pub stays_reason : (X : ℕ → Bool) (s : ℕ) → stays J n own R L X s ≡ true → Stays J n own R L X s
   unfolding stays is_empty
   stays_reason X s h =
@@ -144,14 +102,14 @@ module _ (J : Job) (n : ℕ) (own : ℕ → ℕ) (R : SetRule) (L : List Bool) w
       let r = stays J n own R L in
       let G = member (greatest r (size J)) in
       let reason : (s : ℕ) → G s ≡ true → Stays J n own R L G s =
-      λ s e. stays_reason G s (greatest_supported r (size J) stays_monotone s e) in
+      λ s e. stays_reason G s (greatest_supported r (size J) (stays_monotone J n own R L) s e) in
       record {
         states = greatest_bound r (size J);
         reason = reason;
-        stayed = λ s l why. greatest_rule r (size J) stays_monotone s l (stays_intro G s why);
+        stayed = λ s l why. greatest_rule r (size J) (stays_monotone J n own R L) s l (stays_intro J n own R L G s why);
         border_value = λ s border e. stays_border G s border (reason s e);
         holds_each =
-            λ Y bound supported. greatest_holds r (size J) stays_monotone Y bound (λ s l e. stays_intro Y s (supported s e));
+            λ Y bound supported. greatest_holds r (size J) (stays_monotone J n own R L) Y bound (λ s l e. stays_intro J n own R L Y s (supported s e));
       }
 
 -- For a value of 0 or 1: no cell filled with the other value is in the smallest set, and no cell of the smallest is in the largest.

@@ -1,5 +1,5 @@
 -- What the pass keeps after so many edge lines of a text, and that questions 6 and 7 are answered from it as document 01 has them. Assumes nothing.
-use Prim.Native.Nat.{ℕ, zero, suc, ◌+◌, ◌-◌, ◌<◌, ◌≤◌}
+use Prim.Native.Nat.{ℕ, zero, suc, ◌+◌, ◌<◌, ◌≤◌}
 use mathlib.Core.Path.{◌≡◌, refl, sym, ◌∙◌, ap}
 use mathlib.Core.Bool.{Bool, not, ◌&&◌, ◌||◌}
 use native.Mathlib.Numerals.{add-one, sub-one}

@@ -1,13 +1,11 @@
 -- A settled table is one in which the steps and the copying of a round fill nothing. Assumes nothing.
-use Prim.Native.Nat.{ℕ, zero, suc, ◌-◌, ◌<◌, ◌≤◌}
+use Prim.Native.Nat.{ℕ, zero, suc, ◌<◌, ◌≤◌}
 use mathlib.Core.Path.{◌≡◌, refl, sym, ◌∙◌, ap}
 use mathlib.Core.Bool.{true, cond, ◌&&◌}
 use native.Mathlib.Nat.{le_refl}
 use native.Mathlib.Omega.{arith}
 use borrow.Author.Tests.{eq-eqb, ne_eqb, eqb-true}
-use mathlib.Core.List.{List, ◌++◌}
-use lib.ListN.{length, take, drop}
-use lib.Seq.{take-length, take-append_seam}
+use lib.ListN.{length}
 use lib.Dec.{eqb}
 use Rattle.law.proofs.Bool.{split, and_left, and_right, cond_true, cond_false}
 use Rattle.law.proofs.Bounded.{all_elim, by_equal}

@@ -14,7 +14,7 @@ use Rattle.law.specs.Bounded.{first, all}
 use Rattle.law.specs.Lists.{every}
 use Rattle.law.proofs.Lists.{tab_length}
 use Rattle.text.specs.Field.{Text}
-use Rattle.job.specs.Layout.{states, edges, subformulas, nodes, label_field, kind_field, left_field, right_field}
+use Rattle.job.specs.Layout.{states, subformulas, nodes, label_field, kind_field, left_field, right_field}
 use Rattle.job.specs.Question.{Question, refusal, answered}
 use Rattle.job.specs.Questions.{of_line_one, of_lines, first_line, ranges, text_length, line_fields, state_lines, edge_lines, edges_out, formula_lines, head_questions, line_questions, text_questions, formed_line, Accepted as Accepted-text}
 use Rattle.job.specs.Formula.{parsed, formula}

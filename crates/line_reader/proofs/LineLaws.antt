@@ -15,7 +15,7 @@ use Rattle.text.specs.Fields.{pair, triple}
 use Rattle.text.specs.declared.fields.Pair.TheVariants as pairs
 use Rattle.text.specs.declared.fields.Triple.TheVariants as triples
 use Rattle.text.proofs.FieldsLaws.{pair_malformed, pair_numbers, triple_malformed, triple_numbers}
-use Rattle.job.specs.Layout.{states, edges, nodes, state_at, edge_at, subformula_at, owner_field, label_field, source_field, target_field, kind_field, left_field, right_field}
+use Rattle.job.specs.Layout.{state_at, edge_at, subformula_at, owner_field, label_field, source_field, target_field, kind_field, left_field, right_field}
 use Rattle.job.specs.Formula.{parsed, is_formula}
 use Rattle.job.specs.Questions.{state_ok, edge_ok, formula_ok}
 use Rattle.job.specs.Leaves.{Fits}

@@ -12,7 +12,7 @@ use lib.ListN.{length, length-replicate}
 use lib.Dec.{lit≤}
 use native.Mathlib.Omega.{arith}
 use Rattle.text.specs.Field.{Text}
-use Rattle.job.specs.Job.{decode, subformula}
+use Rattle.job.specs.Job.{decode}
 use Rattle.job.specs.declared.subformula.Subformula.TheVariants.{Eg, Ag}
 use Rattle.job.specs.Answer.{accepted, refused}
 use Rattle.job.specs.Questions.{Accepted}

@@ -22,7 +22,7 @@ use Rattle.job.proofs.Exact.{decode_is_job}
 use Rattle.job.proofs.QuestionLaws.{by_refusal, answered_some, answered_yes, answered_no, answered_behind, all_answered_yes}
 use Rattle.cells.specs.Table.{Table, cell, owner_cell}
 use Rattle.cells.specs.Questions.{table_size, table_cells, node_below, page_fits}
-use Rattle.cells.specs.Calls.{Call, page as page_call, finish, own_questions, questions, width, told, left, answer, after}
+use Rattle.cells.specs.Calls.{Call, page as page_call, finish, own_questions, questions, width, told, left, answer}
 use Rattle.cells.specs.Finish as finishing
 use Rattle.cells.proofs.Formed.{Formed, is_formed_lem, cell_outside}
 use Rattle.cells.proofs.Sound.{Sound}

@@ -8,12 +8,11 @@ use native.Mathlib.Nat.{mod-eq_of_lt}
 use native.Mathlib.Omega.{arith}
 use borrow.Author.Tests.{eq-eqb, ne_eqb}
 use lib.ListN.{length, get_or, drop}
-use lib.Dec.{eqb}
 use Rattle.law.specs.Bounded.{first, all}
 use Rattle.law.proofs.Bool.{not_not, not_is_true, not_is_false}
 use Rattle.law.proofs.Bounded.{by_order, first_before, first_passes, first_le, first_fails, all_intro}
 use Rattle.text.specs.Field.{Text}
-use Rattle.job.specs.Layout.{states, edges, subformulas, nodes, edge_at, kind_field, left_field, right_field}
+use Rattle.job.specs.Layout.{states, subformulas, edge_at, kind_field, left_field, right_field}
 use Rattle.job.specs.Question.{Question, answered, refusal}
 use Rattle.job.specs.Questions.{of_lines, state_lines, formula_lines, head_questions, line_questions, text_questions, formed_line, state_ok, edge_ok, formula_ok}
 use Rattle.job.specs.Answer.{Answer, accepted, refused}

@@ -1,20 +1,16 @@
--- What a scanned token says of the tokens from its place on. A `let .. else` on a token knows the token's case by its tag: the position of
--- the case in the enum. Assumes nothing.
+-- What a scanned token says of the tokens from its place on. A `let .. else` on a token knows that it is not of that case. Assumes nothing.
 use Prim.Native.Nat.{ℕ, ◌<◌, ◌≤◌}
 use mathlib.Core.Path.{◌≡◌, refl, sym, ap, subst, ◌∙◌}
 use mathlib.Core.Bool.{Bool, true, false, true≢false}
 use mathlib.Core.List.{List, [], ◌∷◌}
 use lib.ListN.{drop}
 use borrow.Author.Tests.{ne_eqb}
-use denote.Enum.Declared.{tag_of}
-use types.Run.{OneOf, miss}
 use Rattle.text.specs.Field.{Text}
 use Rattle.rule_text.specs.Scan.{tokens}
 use Rattle.rule_text.specs.Grammar.{strength, right_level}
 use Rattle.rule_text.specs.declared.token.Operator.{Operator as BinaryOperator}
 use Rattle.rule_text.specs.declared.token.Token.{Token}
 use Rattle.rule_text.specs.declared.token.Token.TheVariants.{Atom, Prefix, Operator, Mark, Unknown}
-use Rattle.rule_text.specs.contracts.token.Token.{the_type}
 use Rattle.rule_text.proofs.Levels.{Ends}
 use Rattle.scanner.specs.Scanned.{NoToken, ended, not_known, StartsWith, Scans}
 use Rattle.scanner.specs.declared.scan.Scanned.{Scanned}
@@ -28,10 +24,6 @@ use Rattle.rule_places.specs.declared.places.Following.TheVariants.{By, Nothing}
 -- The tokens from a place of the text on.
 abbrev pub tokens_from : Text → ℕ → List Token
 tokens_from x at = tokens (drop at x)
-
--- The token's case is one of these.
-abbrev pub CaseOf : List ℕ → Token → Type 0
-CaseOf cases t = OneOf cases (tag_of the_type t)
 
 unfoldable pub known : Token → Bool
 known (Atom j) = true
@@ -82,12 +74,12 @@ no_token_mark c ts ended = refl
 no_token_mark c ts (not_known us) = refl
 
 pub other_token_mark :
-    (t : Token) (ts us : List Token) (c : ℕ) → CaseOf (0 ∷ 1 ∷ 2 ∷ 4 ∷ []) t → StartsWith t ts us → starts_with_mark c ts ≡ false
+    (t : Token) (ts us : List Token) (c : ℕ) → ((d : ℕ) → t ≡ Mark d → ⊥) → StartsWith t ts us → starts_with_mark c ts ≡ false
 unfolding starts_with_mark StartsWith
 other_token_mark (Atom j) ts us c h s = ap (starts_with_mark c) s
 other_token_mark (Prefix p) ts us c h s = ap (starts_with_mark c) s
 other_token_mark (Operator o) ts us c h s = ap (starts_with_mark c) s
-other_token_mark (Mark d) ts us c h s = absurd (miss (0 ∷ 1 ∷ 2 ∷ 4 ∷ []) 3 tt h)
+other_token_mark (Mark d) ts us c h s = absurd (h d refl)
 other_token_mark Unknown ts us c h s = no_token_mark c ts s
 
 pub other_mark : (d c : ℕ) (ts us : List Token) → (d ≡ c → ⊥) → StartsWith (Mark d) ts us → starts_with_mark c ts ≡ false
@@ -99,11 +91,11 @@ no_token_ends least ts ended = tt
 no_token_ends least ts (not_known us) = tt
 
 pub other_token_ends :
-    (t : Token) (ts us : List Token) (least : ℕ) → CaseOf (0 ∷ 1 ∷ 3 ∷ 4 ∷ []) t → StartsWith t ts us → Ends least ts
+    (t : Token) (ts us : List Token) (least : ℕ) → ((o : BinaryOperator) → t ≡ Operator o → ⊥) → StartsWith t ts us → Ends least ts
 unfolding StartsWith
 other_token_ends (Atom j) ts us least h s = subst (Ends least) (sym s) tt
 other_token_ends (Prefix p) ts us least h s = subst (Ends least) (sym s) tt
-other_token_ends (Operator o) ts us least h s = absurd (miss (0 ∷ 1 ∷ 3 ∷ 4 ∷ []) 2 tt h)
+other_token_ends (Operator o) ts us least h s = absurd (h o refl)
 other_token_ends (Mark d) ts us least h s = subst (Ends least) (sym s) tt
 other_token_ends Unknown ts us least h s = no_token_ends least ts s
 

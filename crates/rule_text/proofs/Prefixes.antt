@@ -1,7 +1,7 @@
 -- Every prefix is taken alike: behind it a rule in parentheses is a rule. Assumes nothing.
 use Prim.Native.Nat.{ℕ}
 use mathlib.Core.Path.{refl, sym}
-use mathlib.Core.Bool.{true, true≢false}
+use mathlib.Core.Bool.{true≢false}
 use mathlib.Core.List.{List, [], ◌∷◌, ◌++◌, append_assoc}
 use lib.ListN.{replicate}
 use Rattle.law.specs.Lists.{every}

@@ -2,7 +2,7 @@
 // lent table and the numbers of the call, for page a lent buffer too, or for rule over rule text and a lent buffer. All numbers of the answer
 // (number, line, then the call's own, which are 0 where it is refused) are stored into an array that the caller lends; one that is too short takes
 // as many as fit. Nothing is worked out here and nothing is required: any bytes and any numbers may be passed. `include/selahmur.h` declares the functions, and
-// `rt staticlib selahmur` writes the archive.
+// `rt lib` in this crate's folder writes the archive, out/libselahmur.a.
 #![tactic(auto)]
 
 pub mod message;

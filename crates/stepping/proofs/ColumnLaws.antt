@@ -1,15 +1,12 @@
 -- The step of a column is its step by the subformula's rule. Assumes nothing.
 use Prim.Native.Nat.{ℕ}
 use mathlib.Core.Path.{◌≡◌, subst}
-use mathlib.Core.List.{[], ◌∷◌}
-use mathlib.Core.Logic.{⊎_elim}
-use native.Mathlib.Omega.{arith}
-use types.Run.{OneOf}
-use denote.Enum.Declared.{tag_of}
+use mathlib.Core.Bool.{Bool}
 use Rattle.job.specs.Job.{Job}
 use Rattle.job.specs.Rule.{rule_at, IsSets}
+use Rattle.job.specs.declared.rule.Condition.{Condition}
 use Rattle.job.specs.declared.rule.Rule.{Rule}
-use Rattle.job.specs.contracts.rule.Rule.{the_type}
+use Rattle.job.specs.declared.rule.Rule.TheVariants.{Sets}
 use Rattle.cells.specs.Table.{Table}
 use Rattle.cells.specs.Step.{step_column}
 use Rattle.table.specs.Filling.{Leaves, part, of_column}
@@ -29,7 +26,9 @@ unfolding part of_column step_column
 stepped J n k r t after told e l = stepped_by J n k r (rule_at J k) t after told e l
 
 -- the arms of the rules without sets
-pub not_sets : (r : Rule) → OneOf (0 ∷ 1 ∷ 2 ∷ 3 ∷ []) (tag_of the_type r) → IsSets r → ⊥
-not_sets r key i =
-    ⊎_elim (λ e. omega arith) (⊎_elim (λ e. omega arith) (⊎_elim (λ e. omega arith) (λ e. omega arith)))
-    (subst (λ (x : Rule). OneOf (0 ∷ 1 ∷ 2 ∷ 3 ∷ []) (tag_of the_type x)) i.is key)
+pub not_sets :
+    (r : Rule)
+    → ((all : Bool) (start grow : Condition) (value : ℕ) → r ≡ Sets all start grow value → ⊥)
+    → IsSets r
+    → ⊥
+not_sets r none i = none i.all i.start i.grow i.value i.is

@@ -4,7 +4,6 @@ use Rattle.job.specs.Question.{no_number}
 use Rattle.cells.specs.Calls.{own_questions}
 use Rattle.image.specs.Image.{job_of}
 use Rattle.asking.specs.Asked.{call_of}
-use borrow.Author.Rules.{rules}
 use Rattle.asking.proofs.own_no.Goals as goal
 
 pub returns-in-Step : goal.returns-in-Step

@@ -1,11 +1,8 @@
 -- `close_column`: the nodes passed so far are closed.
-use Prim.Native.Nat.{◌-◌, ◌≤◌}
 use mathlib.Core.Path.{◌≡◌}
 use Rattle.image.specs.Image.{job_of}
-use Rattle.table.specs.Filling.{FillingNodes}
 use Rattle.table.proofs.Parts.{leaves_long}
 use Rattle.table.proofs.FillingLoops.{nodes_filling_start, nodes_filling_turn, nodes_filling_over}
-use Rattle.closing.specs.Closed.{constant}
 use Rattle.closing.proofs.ClosingLaws.{all_closed, value_is}
 use borrow.Author.Rules.{rules}
 use native.Mathlib.Omega.{arith}

@@ -1,9 +1,8 @@
 -- `close_node`: the states passed so far are filled.
-use Prim.Native.Nat.{◌-◌, ◌<◌, ◌≤◌}
+use Prim.Native.Nat.{◌<◌}
 use mathlib.Core.Path.{◌≡◌, refl}
 use Rattle.image.specs.Image.{job_of, fragment_size}
 use Rattle.closing.specs.Closed.{constant}
-use Rattle.table.specs.Filling.{Filling}
 use Rattle.table.proofs.Parts.{leaves_long}
 use Rattle.table.proofs.FillingLoops.{filling_start, filling_cell, filling_turn, filling_over}
 use borrow.Author.Rules.{Fits-under}

@@ -2,7 +2,6 @@
 use mathlib.Core.Path.{ap₂}
 use mathlib.Core.List.{[], ◌∷◌}
 use Rattle.cells.specs.Calls.{told, left}
-use borrow.Author.Rules.{rules}
 use Rattle.closing.proofs.close_smallest.Goals as goal
 
 pub smallest_open-k-requires : goal.smallest_open-k-requires

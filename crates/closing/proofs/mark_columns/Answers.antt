@@ -1,7 +1,5 @@
 -- `mark_columns`: the nodes passed so far are marked.
-use Prim.Native.Nat.{◌-◌, ◌≤◌}
 use mathlib.Core.Path.{◌≡◌}
-use Rattle.cells.specs.Rest.{column_byte, BytesAre}
 use Rattle.cells.proofs.Tracked.{bytes_none, bytes_more}
 use Rattle.image.specs.Image.{job_of}
 use borrow.Author.Rules.{rules}

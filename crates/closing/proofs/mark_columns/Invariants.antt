@@ -1,10 +1,6 @@
 -- `mark_columns`: the nodes passed so far are marked.
 use Prim.Native.Nat.{◌-◌, ◌≤◌}
-use mathlib.Core.Path.{◌≡◌}
 use Rattle.cells.specs.Rest.{column_byte, BytesAre}
-use Rattle.cells.proofs.Tracked.{bytes_none, bytes_more}
-use Rattle.image.specs.Image.{job_of}
-use native.Mathlib.Omega.{arith}
 use Rattle.closing.proofs.mark_columns.Given as goal
 
 abbrev pub invariant-loop-node : goal.invariant-loop-node

@@ -1,13 +1,7 @@
 -- `smallest_open`: no subformula passed so far is open.
-use Prim.Native.Nat.{ℕ, ◌-◌, ◌<◌, ◌≤◌}
-use mathlib.Core.Path.{◌≡◌, sym, ◌∙◌}
-use mathlib.Core.Bool.{false}
+use mathlib.Core.Path.{sym, ◌∙◌}
 use borrow.Author.Count.{below_none, below_more}
-use Rattle.job.specs.Job.{size, subformula_count}
-use Rattle.cells.specs.Table.{is_empty, owner_cell}
-use Rattle.cells.specs.Close.{open?}
 use Rattle.cells.proofs.Fill.{not_empty}
-use Rattle.image.specs.Image.{job_of}
 use Rattle.closing.proofs.ClosingLaws.{open_here, open_nowhere, smallest_open_is, smallest_none}
 use borrow.Author.Rules.{rules}
 use native.Mathlib.Omega.{arith}

@@ -1,14 +1,11 @@
 -- `smallest_open`: no subformula passed so far is open.
 use Prim.Native.Nat.{ℕ, ◌-◌, ◌<◌, ◌≤◌}
-use mathlib.Core.Path.{◌≡◌, sym, ◌∙◌}
+use mathlib.Core.Path.{◌≡◌}
 use mathlib.Core.Bool.{false}
 use Rattle.job.specs.Job.{size, subformula_count}
 use Rattle.cells.specs.Table.{is_empty, owner_cell}
 use Rattle.cells.specs.Close.{open?}
-use Rattle.cells.proofs.Fill.{not_empty}
 use Rattle.image.specs.Image.{job_of}
-use Rattle.closing.proofs.ClosingLaws.{open_here, open_nowhere, smallest_open_is, smallest_none}
-use native.Mathlib.Omega.{arith}
 use Rattle.closing.proofs.smallest_open.Given as goal
 
 abbrev pub invariant-loop-s : goal.invariant-loop-s

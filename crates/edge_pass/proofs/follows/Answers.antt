@@ -1,6 +1,5 @@
 -- `follows`: the first edge line follows none.
 use borrow.Author.Tests.{eq-eqb, ne_eqb}
-use borrow.Author.Rules.{rules}
 use Rattle.edge_pass.proofs.follows.Goals as goal
 
 pub returns-then-lines-eq0 : goal.returns-then-lines-eq0

@@ -2,7 +2,6 @@
 use mathlib.Core.Path.{◌∙◌}
 use borrow.Author.Tests.{lt-ltb, le-ltb}
 use Rattle.edge_pass.specs.EdgePass.{is_right}
-use borrow.Author.Rules.{rules}
 use Rattle.edge_pass.proofs.is_right_next.Goals as goal
 
 pub returns-then-o-source : goal.returns-then-o-source

@@ -2,7 +2,6 @@
 use mathlib.Core.Path.{sym}
 use native.Mathlib.Omega.{arith}
 use lib.Seq.{set_out}
-use borrow.Author.Rules.{rules}
 use Rattle.edge_pass.proofs.mark_start.Goals as goal
 
 pub returns-else-source-lt256 : goal.returns-else-source-lt256

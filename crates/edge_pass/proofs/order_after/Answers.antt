@@ -3,7 +3,6 @@ use Prim.Native.Nat.{◌+◌}
 use mathlib.Core.Path.{◌∙◌, ap}
 use Rattle.layout.specs.Lines.{right_after}
 use Rattle.edge_pass.specs.EdgePass.{order_after}
-use borrow.Author.Rules.{rules}
 use Rattle.edge_pass.proofs.order_after.Goals as goal
 
 pub returns : goal.returns

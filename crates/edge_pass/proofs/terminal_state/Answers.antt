@@ -1,12 +1,8 @@
 -- `terminal_state`: the states passed so far are marked.
-use Prim.Native.Nat.{ℕ, ◌-◌, ◌≤◌, ◌<◌}
-use mathlib.Core.Path.{◌≡◌, sym}
-use mathlib.Core.Bool.{false}
+use mathlib.Core.Path.{sym}
 use native.Mathlib.Omega.{arith}
 use borrow.Author.Count.{below_none, below_more}
 use borrow.Author.Tests.{eq-eqb, ne_eqb}
-use lib.Dec.{eqb}
-use lib.ListN.{get_or}
 use Rattle.law.proofs.Bounded.{first_is, first_none}
 use Rattle.edge_pass.specs.EdgePass.{terminal_state}
 use borrow.Author.Rules.{rules}

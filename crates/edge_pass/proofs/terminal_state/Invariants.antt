@@ -1,12 +1,9 @@
 -- `terminal_state`: the states passed so far are marked.
 use Prim.Native.Nat.{ℕ, ◌-◌, ◌≤◌, ◌<◌}
-use mathlib.Core.Path.{◌≡◌, sym}
+use mathlib.Core.Path.{◌≡◌}
 use mathlib.Core.Bool.{false}
-use native.Mathlib.Omega.{arith}
 use lib.Dec.{eqb}
 use lib.ListN.{get_or}
-use Rattle.law.proofs.Bounded.{first_is, first_none}
-use Rattle.edge_pass.specs.EdgePass.{terminal_state}
 use Rattle.edge_pass.proofs.terminal_state.Given as goal
 
 abbrev pub invariant-loop-s : goal.invariant-loop-s

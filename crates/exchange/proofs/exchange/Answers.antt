@@ -4,7 +4,6 @@ use Rattle.cells.specs.Finish.{exchange}
 use Rattle.image.specs.Image.{job_of}
 use Rattle.exchange.specs.Running.{Ran}
 use Rattle.exchange.proofs.RunningLaws.{stepped_ready, ran_exchanged}
-use borrow.Author.Rules.{rules}
 use native.Mathlib.Omega.{arith}
 use Rattle.exchange.proofs.exchange.Goals as goal
 use Rattle.exchange.proofs.exchange.Goals.{After-slice_known-3-1}

@@ -1,5 +1,5 @@
 -- `steps`: the nodes passed so far are stepped.
-use Prim.Native.Nat.{◌+◌, ◌-◌, ◌<◌, ◌≤◌}
+use Prim.Native.Nat.{◌+◌, ◌<◌}
 use mathlib.Core.Path.{◌≡◌, sym, ◌∙◌, subst}
 use Rattle.cells.specs.Finish.{steps_up_to}
 use Rattle.image.specs.Image.{job_of}

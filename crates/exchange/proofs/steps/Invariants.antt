@@ -1,11 +1,8 @@
 -- `steps`: the nodes passed so far are stepped.
-use Prim.Native.Nat.{◌+◌, ◌-◌, ◌<◌, ◌≤◌}
-use mathlib.Core.Path.{◌≡◌, sym, ◌∙◌, subst}
+use Prim.Native.Nat.{◌-◌, ◌≤◌}
 use Rattle.cells.specs.Finish.{steps_up_to}
 use Rattle.image.specs.Image.{job_of}
 use Rattle.exchange.specs.Running.{Ran}
-use Rattle.exchange.proofs.RunningLaws.{ran_none, stepped_ready, ran_more}
-use native.Mathlib.Omega.{arith}
 use Rattle.exchange.proofs.steps.Given as goal
 
 abbrev pub invariant-loop-n : goal.invariant-loop-n

@@ -4,7 +4,6 @@ use mathlib.Core.Path.{◌∙◌, ap}
 use borrow.Rule.Slice.PartMut.{post_of}
 use Rattle.cells.specs.Calls.{finish, answer}
 use Rattle.from_fresh.proofs.TableLaws.{part_fresh, part_finished}
-use borrow.Author.Rules.{rules}
 use Rattle.from_fresh.proofs.finish_fresh.Goals as goal
 
 pub returns : goal.returns

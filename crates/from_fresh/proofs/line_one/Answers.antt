@@ -3,7 +3,6 @@ use mathlib.Core.Path.{sym, ap, ◌∙◌}
 use Rattle.job.specs.Read.{read_told}
 use Rattle.from_fresh.proofs.TableLaws.{head_numbers, size_refused}
 use native.Mathlib.Omega.{arith}
-use borrow.Author.Rules.{rules}
 use Rattle.from_fresh.proofs.line_one.Goals as goal
 
 pub returns-in_default : goal.returns-in_default

@@ -1,5 +1,4 @@
 -- `table_size`: line 1's product.
-use borrow.Author.Rules.{rules}
 use Rattle.from_fresh.proofs.table_size.Goals as goal
 
 pub returns : goal.returns

@@ -1,7 +1,6 @@
 -- `are_marks`: the length, and a byte above 1.
 use mathlib.Core.Path.{sym, ◌∙◌}
 use Rattle.opening.proofs.MarksLaws.{other_length, same_length}
-use borrow.Author.Rules.{rules}
 use Rattle.opening.proofs.are_marks.Goals as goal
 
 pub returns-then-marks-states : goal.returns-then-marks-states

@@ -1,12 +1,8 @@
 -- `lowest_no`: no state passed so far says no.
-use Prim.Native.Nat.{ℕ, ◌-◌, ◌<◌, ◌≤◌}
-use mathlib.Core.Path.{◌≡◌, sym, ◌∙◌}
-use mathlib.Core.Bool.{false}
+use mathlib.Core.Path.{sym, ◌∙◌}
 use borrow.Author.Count.{below_none, below_more}
 use Rattle.law.proofs.Bounded.{first_is, first_none}
-use Rattle.job.specs.Job.{size}
-use Rattle.cells.specs.Opening.{says_no, lowest_no}
-use Rattle.image.specs.Image.{job_of}
+use Rattle.cells.specs.Opening.{lowest_no}
 use borrow.Author.Rules.{rules}
 use native.Mathlib.Omega.{arith}
 use Rattle.opening.proofs.lowest_no.Goals as goal

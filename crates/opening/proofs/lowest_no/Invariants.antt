@@ -1,12 +1,10 @@
 -- `lowest_no`: no state passed so far says no.
 use Prim.Native.Nat.{ℕ, ◌-◌, ◌<◌, ◌≤◌}
-use mathlib.Core.Path.{◌≡◌, sym, ◌∙◌}
+use mathlib.Core.Path.{◌≡◌}
 use mathlib.Core.Bool.{false}
-use Rattle.law.proofs.Bounded.{first_is, first_none}
 use Rattle.job.specs.Job.{size}
-use Rattle.cells.specs.Opening.{says_no, lowest_no}
+use Rattle.cells.specs.Opening.{says_no}
 use Rattle.image.specs.Image.{job_of}
-use native.Mathlib.Omega.{arith}
 use Rattle.opening.proofs.lowest_no.Given as goal
 
 abbrev pub invariant-loop-s : goal.invariant-loop-s

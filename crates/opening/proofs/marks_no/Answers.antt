@@ -1,8 +1,6 @@
 -- `marks_no`: 25, and behind it 26.
 use mathlib.Core.Path.{sym, ◌∙◌}
-use borrow.Author.Tests.{not-true, not-false}
 use Rattle.opening.proofs.MarksLaws.{no_marks, none_marked, some_marked_lem}
-use borrow.Author.Rules.{rules}
 use Rattle.opening.proofs.marks_no.Goals as goal
 
 pub returns-then-not-are_marks : goal.returns-then-not-are_marks

@@ -1,6 +1,5 @@
 -- `says_no`: by the mark, and then by the cell.
 use Rattle.opening.proofs.MarksLaws.{not_opening, opening_cell}
-use borrow.Author.Rules.{rules}
 use Rattle.opening.proofs.says_no.Goals as goal
 
 pub returns-then-marks-s-ne1 : goal.returns-then-marks-s-ne1

@@ -1,11 +1,7 @@
 -- `some_above`: no mark passed so far is above v.
-use Prim.Native.Nat.{ℕ, ◌-◌, ◌<◌, ◌≤◌}
-use mathlib.Core.Path.{◌≡◌, sym}
-use mathlib.Core.Bool.{false}
+use mathlib.Core.Path.{sym}
 use borrow.Author.Count.{below_none, below_more}
 use borrow.Author.Tests.{lt-ltb, le-ltb}
-use lib.ListN.{length, get_or}
-use lib.Dec.{ltb}
 use Rattle.law.proofs.Bounded.{any_intro, any_none}
 use borrow.Author.Rules.{rules}
 use native.Mathlib.Omega.{arith}

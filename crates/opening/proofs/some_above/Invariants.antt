@@ -1,11 +1,9 @@
 -- `some_above`: no mark passed so far is above v.
 use Prim.Native.Nat.{ℕ, ◌-◌, ◌<◌, ◌≤◌}
-use mathlib.Core.Path.{◌≡◌, sym}
+use mathlib.Core.Path.{◌≡◌}
 use mathlib.Core.Bool.{false}
 use lib.ListN.{length, get_or}
 use lib.Dec.{ltb}
-use Rattle.law.proofs.Bounded.{any_intro, any_none}
-use native.Mathlib.Omega.{arith}
 use Rattle.opening.proofs.some_above.Given as goal
 
 abbrev pub invariant-loop-s : goal.invariant-loop-s

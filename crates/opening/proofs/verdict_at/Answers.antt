@@ -6,7 +6,6 @@ use Rattle.cells.specs.Opening.{whole_cell}
 use Rattle.cells.proofs.OpeningLaws.{none_yes, found_no, whole_filled}
 use Rattle.image.specs.Image.{job_of}
 use native.Mathlib.Omega.{arith}
-use borrow.Author.Rules.{rules}
 use Rattle.opening.proofs.verdict_at.Goals as goal
 use Rattle.opening.proofs.verdict_at.Goals.{After-states}
 

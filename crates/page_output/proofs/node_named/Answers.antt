@@ -1,8 +1,6 @@
 -- `node_named`: by the argument's length and its byte.
 use mathlib.Core.Path.{sym, ◌∙◌}
-use borrow.Author.Tests.{not-true, not-false}
 use Rattle.page_output.proofs.NodeLaws.{other_length, no_digit, a_digit}
-use borrow.Author.Rules.{rules}
 use Rattle.page_output.proofs.node_named.Goals as goal
 
 pub returns-then-argument-ne1 : goal.returns-then-argument-ne1

@@ -1,6 +1,5 @@
 -- `end_line`: byte 10 behind the spaces.
 use Rattle.page_writer.proofs.PartLaws.{end_written}
-use borrow.Author.Rules.{rules}
 use Rattle.page_writer.proofs.end_line.Goals as goal
 
 pub returns : goal.returns

@@ -2,7 +2,6 @@
 use mathlib.Core.Path.{sym, ap, ◌∙◌}
 use Rattle.page_text.specs.Page.{cell_mark}
 use Rattle.page_text.proofs.PageLaws.{mark_empty, mark_filled}
-use borrow.Author.Rules.{rules}
 use Rattle.page_writer.proofs.mark.Goals as goal
 
 pub returns-then-cell-eq2 : goal.returns-then-cell-eq2

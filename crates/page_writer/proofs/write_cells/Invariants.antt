@@ -1,9 +1,7 @@
 -- `write_cells`: a cell more, behind those written.
 use Prim.Native.Nat.{◌-◌}
-use Rattle.law.proofs.Pieces.{written_start}
 use Rattle.image.specs.Image.{job_of}
-use Rattle.page_writer.proofs.PartLaws.{CellsSoFar, cells_turn, cells_over, run_inside, run_small, run_low}
-use native.Mathlib.Omega.{arith}
+use Rattle.page_writer.proofs.PartLaws.{CellsSoFar}
 use Rattle.page_writer.proofs.write_cells.Given as goal
 
 abbrev pub invariant-loop-k : goal.invariant-loop-k

@@ -1,6 +1,5 @@
 -- `write_heading`: its parts, one behind the other.
 use Rattle.page_writer.proofs.PartLaws.{heading_written}
-use borrow.Author.Rules.{rules}
 use Rattle.page_writer.proofs.write_heading.Goals as goal
 
 pub returns : goal.returns

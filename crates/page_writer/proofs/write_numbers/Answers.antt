@@ -1,7 +1,6 @@
 -- `write_numbers`: a number more, behind those written.
-use Prim.Native.Nat.{◌-◌}
 use lib.Dec.{lit<}
-use Rattle.law.proofs.Pieces.{Written, written_start, written_end}
+use Rattle.law.proofs.Pieces.{written_start, written_end}
 use Rattle.page_text.specs.Page.{two_columns}
 use Rattle.page_writer.proofs.PartLaws.{numbers_turn}
 use borrow.Author.Rules.{rules}

@@ -1,10 +1,7 @@
 -- `write_numbers`: a number more, behind those written.
 use Prim.Native.Nat.{◌-◌}
-use lib.Dec.{lit<}
-use Rattle.law.proofs.Pieces.{Written, written_start, written_end}
+use Rattle.law.proofs.Pieces.{Written}
 use Rattle.page_text.specs.Page.{two_columns}
-use Rattle.page_writer.proofs.PartLaws.{numbers_turn}
-use native.Mathlib.Omega.{arith}
 use Rattle.page_writer.proofs.write_numbers.Given as goal
 
 abbrev pub invariant-loop-k : goal.invariant-loop-k

@@ -1,9 +1,8 @@
 -- `write_page`: a line more, behind those written.
-use Prim.Native.Nat.{◌-◌}
 use Rattle.law.proofs.Pieces.{written_start}
 use Rattle.job.specs.Job.{size}
 use Rattle.image.specs.Image.{job_of}
-use Rattle.page_writer.proofs.PartLaws.{RowsSoFar, rows_turn, page_written, row_fits}
+use Rattle.page_writer.proofs.PartLaws.{rows_turn, page_written, row_fits}
 use borrow.Author.Rules.{rules}
 use Rattle.page_writer.proofs.write_page.Goals as goal
 

@@ -1,9 +1,7 @@
 -- `write_page`: a line more, behind those written.
 use Prim.Native.Nat.{◌-◌}
-use Rattle.law.proofs.Pieces.{written_start}
-use Rattle.job.specs.Job.{size}
 use Rattle.image.specs.Image.{job_of}
-use Rattle.page_writer.proofs.PartLaws.{RowsSoFar, rows_turn, page_written, row_fits}
+use Rattle.page_writer.proofs.PartLaws.{RowsSoFar}
 use Rattle.page_writer.proofs.write_page.Given as goal
 
 abbrev pub invariant-loop-s : goal.invariant-loop-s

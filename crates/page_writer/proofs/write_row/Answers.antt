@@ -1,6 +1,5 @@
 -- `write_row`: its parts, one behind the other.
 use Rattle.page_writer.proofs.PartLaws.{row_written}
-use borrow.Author.Rules.{rules}
 use Rattle.page_writer.proofs.write_row.Goals as goal
 
 pub returns : goal.returns

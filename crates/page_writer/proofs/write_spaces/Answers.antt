@@ -1,9 +1,8 @@
 -- `write_spaces`: a space more, behind those written.
-use Prim.Native.Nat.{◌-◌}
 use mathlib.Core.Path.{refl, ap, ◌∙◌}
 use lib.Seq.{sets}
 use Rattle.law.proofs.Chunks.{chunks_replicate}
-use Rattle.law.proofs.Pieces.{Written, written_start, written_next, written_end}
+use Rattle.law.proofs.Pieces.{written_start, written_next, written_end}
 use Rattle.page_writer.proofs.PartLaws.{space}
 use borrow.Author.Rules.{rules}
 use native.Mathlib.Omega.{arith}

@@ -1,11 +1,7 @@
 -- `write_spaces`: a space more, behind those written.
 use Prim.Native.Nat.{◌-◌}
-use mathlib.Core.Path.{refl, ap, ◌∙◌}
-use lib.Seq.{sets}
-use Rattle.law.proofs.Chunks.{chunks_replicate}
-use Rattle.law.proofs.Pieces.{Written, written_start, written_next, written_end}
+use Rattle.law.proofs.Pieces.{Written}
 use Rattle.page_writer.proofs.PartLaws.{space}
-use native.Mathlib.Omega.{arith}
 use Rattle.page_writer.proofs.write_spaces.Given as goal
 
 abbrev pub invariant-loop-i : goal.invariant-loop-i

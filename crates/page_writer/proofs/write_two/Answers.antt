@@ -2,7 +2,6 @@
 use lib.ListN.{length-set}
 use native.Mathlib.Numerals.{towards_suc}
 use native.Mathlib.Omega.{arith}
-use borrow.Author.Rules.{rules}
 use Rattle.page_writer.proofs.write_two.Goals as goal
 
 pub bounds-out-at-2 : goal.bounds-out-at-2

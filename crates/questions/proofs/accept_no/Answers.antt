@@ -2,7 +2,7 @@
 use Prim.Native.Nat.{◌<◌}
 use mathlib.Core.Path.{◌≡◌, sym, ◌∙◌}
 use mathlib.Core.Bool.{true, ◌&&◌}
-use borrow.Author.Tests.{le-leb, lt-leb, not-true, not-false}
+use borrow.Author.Tests.{le-leb, lt-leb}
 use lib.Dec.{ltb, leb}
 use Rattle.job.specs.Job.{size, subformula_count}
 use Rattle.cells.specs.Close.{is_temporal}
@@ -11,7 +11,6 @@ use Rattle.image.specs.Image.{job_of}
 use Rattle.table.specs.Lent.{Ready, IsCell}
 use Rattle.cells.proofs.CallLaws.{numbers_in}
 use Rattle.questions.proofs.NoLaws.{node_first, node_ready, accept_number, named_no, named_yes, at_no_border, at_border}
-use borrow.Author.Rules.{rules}
 use Rattle.questions.proofs.accept_no.Goals as goal
 use Rattle.questions.proofs.accept_no.Goals.{Else-no-ne0, Else-no-ne0-2, Else-place-ne1}
 

@@ -4,7 +4,6 @@ use borrow.Author.Tests.{lt-ltb, le-ltb}
 use Rattle.job.specs.Job.{size}
 use Rattle.image.specs.Image.{job_of}
 use native.Mathlib.Omega.{arith}
-use borrow.Author.Rules.{rules}
 use Rattle.questions.proofs.are_in.Goals as goal
 
 pub returns-then-states-s : goal.returns-then-states-s

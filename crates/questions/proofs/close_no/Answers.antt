@@ -1,13 +1,11 @@
 -- `close_no`: 9 and 10, then 19, 20.
 use Prim.Native.Nat.{◌≤◌, ◌<◌}
 use mathlib.Core.Path.{sym, ◌∙◌}
-use borrow.Author.Tests.{not-true, not-false}
 use Rattle.job.specs.Job.{subformula_count}
 use Rattle.cells.specs.Calls.{own_questions}
 use Rattle.image.specs.Image.{job_of}
 use Rattle.table.specs.Lent.{Ready}
 use Rattle.questions.proofs.NoLaws.{table_first, table_ready, close_number, open_no, open_yes}
-use borrow.Author.Rules.{rules}
 use native.Mathlib.Omega.{arith}
 use Rattle.questions.proofs.close_no.Goals as goal
 use Rattle.questions.proofs.close_no.Goals.{Else-no-ne0}

@@ -3,7 +3,6 @@ use Prim.Native.Nat.{◌<◌, ◌≤◌}
 use native.Mathlib.Omega.{arith}
 use borrow.Author.Tests.{lt-ltb, le-ltb}
 use Rattle.image.specs.Image.{job_of}
-use borrow.Author.Rules.{rules}
 use Rattle.questions.proofs.is_node.Goals as goal
 
 pub returns-then-n-nodes : goal.returns-then-n-nodes

@@ -2,7 +2,7 @@
 use Prim.Native.Nat.{◌<◌}
 use mathlib.Core.Path.{◌≡◌, sym, ◌∙◌}
 use mathlib.Core.Bool.{true, ◌&&◌, ◌||◌}
-use borrow.Author.Tests.{not-true, not-false}
+use borrow.Author.Tests.{not-false}
 use lib.Dec.{ltb, eqb}
 use Rattle.job.specs.Job.{size, subformula_count}
 use Rattle.cells.specs.Calls.{node_read, own_questions}
@@ -10,7 +10,6 @@ use Rattle.cells.proofs.CallLaws.{numbers_in, read_below}
 use Rattle.image.specs.Image.{job_of}
 use Rattle.table.specs.Lent.{Ready}
 use Rattle.questions.proofs.NoLaws.{table_first, table_ready, look_number, out_of_fragment, in_fragment_lem}
-use borrow.Author.Rules.{rules}
 use Rattle.questions.proofs.look_no.Goals as goal
 use Rattle.questions.proofs.look_no.Goals.{Else-no-ne0, Else-not-are_in, Else-not-is_node}
 
@@ -30,7 +29,7 @@ returns-then-not-is_node c =
 -- behind 11
 module _ (c : Else-not-is_node) where
   yes_11 : (ltb c.args.n (job_of c.args.m.now).nodes || eqb c.args.n 255) ≡ true
-  yes_11 = sym c.is_node.ensures ∙ not-false _ c.if-not-is_node.false-raw
+  yes_11 = sym c.is_node.ensures ∙ c.if-not-is_node.false
 
 pub returns-then-not-are_in : goal.returns-then-not-are_in
 returns-then-not-are_in c =
@@ -39,7 +38,7 @@ returns-then-not-are_in c =
 -- behind 12
 module _ (c : Else-not-are_in) where
   yes_12 : (ltb c.args.s (size (job_of c.args.m.now)) && ltb c.args.k (subformula_count (job_of c.args.m.now))) ≡ true
-  yes_12 = sym c.are_in.ensures ∙ not-false _ c.if-not-are_in.false-raw
+  yes_12 = sym c.are_in.ensures ∙ c.if-not-are_in.false
 
   state_in : c.args.s < size (job_of c.args.m.now)
   state_in = (numbers_in _ _ _ yes_12).0

@@ -1,7 +1,7 @@
 -- `named_no`: 12, then 13.
 use mathlib.Core.Path.{◌≡◌, sym, ◌∙◌}
 use mathlib.Core.Bool.{true, ◌&&◌}
-use borrow.Author.Tests.{not-true, not-false}
+use borrow.Author.Tests.{not-false}
 use lib.Dec.{ltb}
 use Rattle.job.specs.Job.{size, subformula_count}
 use Rattle.cells.specs.Close.{is_temporal}
@@ -9,7 +9,6 @@ use Rattle.image.specs.Image.{job_of}
 use Rattle.messages.proofs.NewsLaws.{temporal_is}
 use Rattle.cells.proofs.CallLaws.{numbers_in}
 use Rattle.questions.proofs.NoLaws.{named_number}
-use borrow.Author.Rules.{rules}
 use Rattle.questions.proofs.named_no.Goals as goal
 use Rattle.questions.proofs.named_no.Goals.{After-is_temporal, Else-not-are_in}
 
@@ -20,7 +19,7 @@ yes_12 :
     (c : Else-not-are_in)
     → let a = c.args in
     (ltb a.s (size (job_of a.m.now)) && ltb a.k (subformula_count (job_of a.m.now))) ≡ true
-yes_12 c = sym c.are_in.ensures ∙ not-false _ c.if-not-are_in.false-raw
+yes_12 c = sym c.are_in.ensures ∙ c.if-not-are_in.false
 
 pub subformula-requires : goal.subformula-requires
 subformula-requires c = record { image = c.requires; k_bound = (numbers_in _ _ _ (yes_12 (goal.at.subformula-requires c).Else-not-are_in)).1 }

@@ -2,7 +2,6 @@
 use mathlib.Core.Path.{sym, ◌∙◌}
 use borrow.Author.Tests.{eq-eqb, ne_eqb}
 use Rattle.cells.specs.Calls.{node_read}
-use borrow.Author.Rules.{rules}
 use Rattle.questions.proofs.node_read.Goals as goal
 
 pub returns-then-n-eq-NO_NODE : goal.returns-then-n-eq-NO_NODE

@@ -4,7 +4,6 @@ use Rattle.cells.specs.Calls.{own_questions}
 use Rattle.table.specs.Lent.{Ready}
 use Rattle.cells.proofs.CallLaws.{numbers_in}
 use Rattle.questions.proofs.NoLaws.{table_first, table_ready, offer_number, named_no, named_yes, empty_no, filled_yes}
-use borrow.Author.Rules.{rules}
 use Rattle.questions.proofs.offer_no.Goals as goal
 use Rattle.questions.proofs.offer_no.Goals.{Else-no-ne0}
 

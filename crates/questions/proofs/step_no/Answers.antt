@@ -6,7 +6,6 @@ use Rattle.cells.specs.Calls.{own_questions}
 use Rattle.image.specs.Image.{job_of}
 use Rattle.questions.proofs.NoLaws.{table_first, table_ready, step_number}
 use Rattle.table.specs.Lent.{Ready}
-use borrow.Author.Rules.{rules}
 use native.Mathlib.Omega.{arith}
 use Rattle.questions.proofs.step_no.Goals as goal
 use Rattle.questions.proofs.step_no.Goals.{Else-no-ne0}

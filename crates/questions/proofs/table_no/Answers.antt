@@ -2,13 +2,12 @@
 use Prim.Native.Nat.{◌*◌, ◌≤◌}
 use mathlib.Core.Path.{◌≡◌, sym, ◌∙◌}
 use native.Mathlib.Nat.{mul-le-mul}
-use borrow.Author.Tests.{eq-eqb, ne_eqb, not-true, not-false}
+use borrow.Author.Tests.{eq-eqb, ne_eqb}
 use lib.ListN.{length}
 use Rattle.cells.specs.Table.{table_length}
 use Rattle.image.specs.Image.{job_of}
 use Rattle.table.specs.Lent.{Lent}
 use Rattle.questions.proofs.NoLaws.{length_is, table_number}
-use borrow.Author.Rules.{rules}
 use native.Mathlib.Omega.{arith}
 use Rattle.questions.proofs.table_no.Goals as goal
 use Rattle.questions.proofs.table_no.Goals.{After-subformulas, Else-table-nodes}

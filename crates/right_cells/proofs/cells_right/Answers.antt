@@ -1,14 +1,8 @@
 -- `cells_right`: the rows passed so far are right.
-use Prim.Native.Nat.{ℕ, ◌-◌, ◌<◌, ◌≤◌}
-use mathlib.Core.Path.{◌≡◌, sym, ◌∙◌}
-use mathlib.Core.Bool.{true}
+use mathlib.Core.Path.{sym, ◌∙◌}
 use native.Mathlib.Omega.{arith}
 use borrow.Author.Count.{below_none, below_more}
 use borrow.Author.Rules.{rules}
-use borrow.Author.Tests.{not-true, not-false}
-use Rattle.job.specs.Job.{size}
-use Rattle.image.specs.Image.{job_of}
-use Rattle.right_cells.specs.Right.{row_right}
 use Rattle.right_cells.proofs.RightLaws.{rows_yes, rows_no}
 use Rattle.right_cells.proofs.cells_right.Goals as goal
 

@@ -1,12 +1,10 @@
 -- `cells_right`: the rows passed so far are right.
 use Prim.Native.Nat.{ℕ, ◌-◌, ◌<◌, ◌≤◌}
-use mathlib.Core.Path.{◌≡◌, sym, ◌∙◌}
+use mathlib.Core.Path.{◌≡◌}
 use mathlib.Core.Bool.{true}
-use native.Mathlib.Omega.{arith}
 use Rattle.job.specs.Job.{size}
 use Rattle.image.specs.Image.{job_of}
 use Rattle.right_cells.specs.Right.{row_right}
-use Rattle.right_cells.proofs.RightLaws.{rows_yes, rows_no}
 use Rattle.right_cells.proofs.cells_right.Given as goal
 
 abbrev pub invariant-loop-s : goal.invariant-loop-s

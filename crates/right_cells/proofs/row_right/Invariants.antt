@@ -2,12 +2,9 @@
 use Prim.Native.Nat.{ℕ, ◌-◌, ◌<◌, ◌≤◌}
 use mathlib.Core.Path.{◌≡◌}
 use mathlib.Core.Bool.{true}
-use mathlib.Core.Logic.{⊎_elim}
-use native.Mathlib.Omega.{arith}
 use Rattle.job.specs.Job.{subformula_count}
 use Rattle.image.specs.Image.{job_of}
 use Rattle.right_cells.specs.Right.{cell_right}
-use Rattle.right_cells.proofs.RightLaws.{place_in, place_out, right_large, right_outside, right_empty, right_inside, row_yes, row_no}
 use Rattle.right_cells.proofs.row_right.Given as goal
 
 abbrev pub invariant-loop-k : goal.invariant-loop-k

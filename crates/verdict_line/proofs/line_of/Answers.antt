@@ -2,7 +2,6 @@
 use mathlib.Core.Path.{◌∙◌}
 use Rattle.text.proofs.WriteLaws.{line_alone}
 use native.Mathlib.Omega.{arith}
-use borrow.Author.Rules.{rules}
 use Rattle.verdict_line.proofs.line_of.Goals as goal
 
 pub returns : goal.returns

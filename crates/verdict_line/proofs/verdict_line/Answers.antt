@@ -10,7 +10,6 @@ use Rattle.cells.specs.Calls.{finish, answer}
 use Rattle.verdict_line.specs.VerdictLine.{verdict_line}
 use Rattle.cells.proofs.CallLaws.{any_table}
 use Rattle.verdict_line.proofs.ShortLaws.{answer_short}
-use borrow.Author.Rules.{rules}
 use Rattle.verdict_line.proofs.verdict_line.Goals as goal
 use Rattle.verdict_line.proofs.verdict_line.Goals.{After-of_finish}
 

@@ -12,7 +12,6 @@ use Rattle.asking.specs.Asked.{call_of, Admitted}
 use Rattle.table.specs.Lent.{Ready, IsCell}
 use Rattle.questions.proofs.FineLaws.{accept_fine}
 use Rattle.calls.specs.Told.{accept_told}
-use borrow.Author.Rules.{rules}
 use Rattle.calls.proofs.accept.accept.Goals as goal
 use Rattle.calls.proofs.accept.accept.Goals.{Else-why-ne0}
 

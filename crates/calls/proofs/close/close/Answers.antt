@@ -12,7 +12,6 @@ use Rattle.asking.specs.Asked.{call_of, Admitted}
 use Rattle.table.specs.Lent.{Ready}
 use Rattle.questions.proofs.FineLaws.{close_fine}
 use Rattle.calls.specs.Told.{close_told}
-use borrow.Author.Rules.{rules}
 use Rattle.calls.proofs.close.close.Goals as goal
 use Rattle.calls.proofs.close.close.Goals.{Else-why-ne0}
 

@@ -10,7 +10,6 @@ use Rattle.asking.specs.Asked.{call_of, Admitted}
 use Rattle.table.specs.Lent.{Ready}
 use Rattle.questions.proofs.NoLaws.{table_ready}
 use Rattle.calls.specs.Told.{finish_told, finish_rounds}
-use borrow.Author.Rules.{rules}
 use Rattle.calls.proofs.finish.finish.Goals as goal
 use Rattle.calls.proofs.finish.finish.Goals.{Else-why-ne0}
 

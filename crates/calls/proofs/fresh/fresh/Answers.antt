@@ -10,7 +10,6 @@ use Rattle.cells.specs.Calls.{Call, width}
 use Rattle.calls.specs.Told.{fresh_told}
 use Rattle.cells.proofs.CallLaws.{reading_refused, fresh_refused, fresh_accepted, length_read}
 use native.Mathlib.Omega.{arith}
-use borrow.Author.Rules.{rules}
 use Rattle.calls.proofs.fresh.fresh.Goals as goal
 use Rattle.calls.proofs.fresh.fresh.Goals.{In-Accepted}
 

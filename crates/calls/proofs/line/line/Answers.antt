@@ -3,7 +3,6 @@ use mathlib.Core.Path.{ap, ap₂, ◌∙◌}
 use native.Mathlib.Nat.{add-sub_cancel_left}
 use lib.ListN.{take, drop}
 use Rattle.job.specs.Read.{line_of}
-use borrow.Author.Rules.{rules}
 use Rattle.calls.proofs.line.line.Goals as goal
 
 pub returns : goal.returns

@@ -12,7 +12,6 @@ use Rattle.table.specs.Lent.{Ready}
 use Rattle.questions.proofs.FineLaws.{page_fine}
 use Rattle.page_text.proofs.BufferLaws.{buffer_stays, buffer_written}
 use Rattle.calls.specs.Told.{page_told}
-use borrow.Author.Rules.{rules}
 use Rattle.calls.proofs.page.page.Goals as goal
 use Rattle.calls.proofs.page.page.Goals.{Else-why-ne0}
 

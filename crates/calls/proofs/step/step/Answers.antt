@@ -10,7 +10,6 @@ use Rattle.asking.specs.Asked.{call_of, Admitted}
 use Rattle.table.specs.Lent.{Ready}
 use Rattle.questions.proofs.FineLaws.{step_fine}
 use Rattle.calls.specs.Told.{step_told}
-use borrow.Author.Rules.{rules}
 use Rattle.calls.proofs.step.step.Goals as goal
 use Rattle.calls.proofs.step.step.Goals.{Else-why-ne0}
 

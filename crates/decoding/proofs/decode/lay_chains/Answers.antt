@@ -1,5 +1,4 @@
 -- `lay_chains`: the chains of the edges passed so far.
-use Prim.Native.Nat.{◌-◌, ◌≤◌}
 use mathlib.Core.Path.{◌≡◌, ap, subst, ◌∙◌}
 use lib.ListN.{length, length-set}
 use Rattle.job.specs.Written.{edge_count}

@@ -1,14 +1,9 @@
 -- `lay_chains`: the chains of the edges passed so far.
 use Prim.Native.Nat.{◌-◌, ◌≤◌}
-use mathlib.Core.Path.{◌≡◌, ap, subst, ◌∙◌}
-use lib.ListN.{length, length-set}
+use mathlib.Core.Path.{◌≡◌}
 use Rattle.job.specs.Written.{edge_count}
-use Rattle.image.specs.Image.{job_of, Denotes}
-use Rattle.decoding.specs.Laid.{chain_of, Chains}
-use Rattle.image.proofs.ImageLaws.{edges_read}
-use Rattle.decoding.proofs.LaidLaws.{denotes_kept, denotes_own}
-use Rattle.decoding.proofs.ChainLaws.{chains_turn}
-use native.Mathlib.Omega.{arith}
+use Rattle.image.specs.Image.{job_of}
+use Rattle.decoding.specs.Laid.{Chains}
 use Rattle.decoding.proofs.decode.lay_chains.Given as goal
 
 abbrev pub invariant-loop-e : goal.invariant-loop-e

@@ -1,7 +1,6 @@
 -- `lay_derived`: each region is as its function leaves it, and the later ones keep it.
 use Rattle.decoding.proofs.LaidLaws.{denotes_own}
 use Rattle.decoding.proofs.FragmentLaws.{chained_own, runs_denote, runs_chains, chains_chained, image_made, all_denote}
-use borrow.Author.Rules.{rules}
 use Rattle.decoding.proofs.decode.lay_derived.Goals as goal
 
 pub lay_chains-requires : goal.lay_chains-requires

@@ -1,13 +1,9 @@
 -- `lay_first`: the states passed so far have their runs, and the next one's does not begin before e.
-use Prim.Native.Nat.{◌+◌, ◌-◌, ◌≤◌, zero-le}
-use mathlib.Core.Path.{◌≡◌, sym, ap, subst, ◌∙◌}
+use Prim.Native.Nat.{◌+◌, ◌-◌, ◌≤◌}
+use mathlib.Core.Path.{◌≡◌}
 use Rattle.job.specs.Job.{size}
-use Rattle.image.specs.Image.{FIRST, job_of, first_edge, Denotes}
+use Rattle.image.specs.Image.{FIRST, job_of, first_edge}
 use Rattle.decoding.specs.Laid.{Laid}
-use Rattle.image.proofs.ImageLaws.{states_read}
-use Rattle.decoding.proofs.LaidLaws.{laid_none, laid_more, laid_done, denotes_kept, denotes_own}
-use Rattle.image.proofs.Runs.{run_on}
-use native.Mathlib.Omega.{arith}
 use Rattle.decoding.proofs.decode.lay_first.Given as goal
 
 abbrev pub invariant-loop-s : goal.invariant-loop-s

@@ -1,9 +1,8 @@
 -- `lay_fragment`: the states passed so far have their places, and those of the fragment are listed.
-use Prim.Native.Nat.{◌-◌, ◌≤◌}
 use mathlib.Core.Path.{◌≡◌, sym, ap, ◌∙◌}
 use Rattle.job.specs.Job.{size}
 use Rattle.image.specs.Image.{job_of, rank}
-use Rattle.decoding.specs.Laid.{Chained, Listed}
+use Rattle.decoding.specs.Laid.{Chained}
 use Rattle.image.proofs.ImageLaws.{states_read}
 use Rattle.decoding.proofs.FragmentLaws.{listed_none, listed_on, listed_size, rank_none, rank_all, rank_few, chained_kept, chained_own}
 use native.Mathlib.Omega.{arith}

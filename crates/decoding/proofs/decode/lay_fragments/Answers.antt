@@ -1,5 +1,4 @@
 -- `lay_fragments`: the nodes passed so far have their fragments.
-use Prim.Native.Nat.{◌-◌, ◌≤◌}
 use mathlib.Core.Path.{subst}
 use Rattle.image.specs.Image.{job_of}
 use Rattle.decoding.specs.Laid.{Chained, Fragments}

@@ -1,10 +1,7 @@
 -- `lay_fragments`: the nodes passed so far have their fragments.
 use Prim.Native.Nat.{◌-◌, ◌≤◌}
-use mathlib.Core.Path.{subst}
 use Rattle.image.specs.Image.{job_of}
-use Rattle.decoding.specs.Laid.{Chained, Fragments}
-use Rattle.decoding.proofs.FragmentLaws.{fragments_none, fragments_more, chained_kept, chained_own}
-use native.Mathlib.Omega.{arith}
+use Rattle.decoding.specs.Laid.{Fragments}
 use Rattle.decoding.proofs.decode.lay_fragments.Given as goal
 
 abbrev pub invariant-loop-n : goal.invariant-loop-n

@@ -1,8 +1,5 @@
 -- `run_start`: no edge passed so far starts at state s or above.
-use Prim.Native.Nat.{◌-◌, ◌≤◌}
-use mathlib.Core.Path.{◌≡◌}
-use Rattle.job.specs.Written.{edge_count}
-use Rattle.image.specs.Image.{job_of, first_edge}
+use Rattle.image.specs.Image.{job_of}
 use Rattle.image.proofs.ImageLaws.{edges_read, source_read}
 use Rattle.image.proofs.Runs.{run_here, run_later, first_few}
 use native.Mathlib.Omega.{arith}

@@ -3,9 +3,6 @@ use Prim.Native.Nat.{◌-◌, ◌≤◌}
 use mathlib.Core.Path.{◌≡◌}
 use Rattle.job.specs.Written.{edge_count}
 use Rattle.image.specs.Image.{job_of, first_edge}
-use Rattle.image.proofs.ImageLaws.{edges_read, source_read}
-use Rattle.image.proofs.Runs.{run_here, run_later, first_few}
-use native.Mathlib.Omega.{arith}
 use Rattle.decoding.proofs.decode.run_start.Given as goal
 
 abbrev pub invariant-loop-e : goal.invariant-loop-e

@@ -9,7 +9,6 @@ use Rattle.job.specs.declared.reading.Reading.TheVariants.{Accepted}
 use Rattle.job.proofs.ReadLaws.{text_accepted, refusal_numbered}
 use Rattle.decoding.proofs.LaidLaws.{denotes_own}
 use Rattle.decoding.proofs.TextLaws.{job_laid, unlaid}
-use borrow.Author.Rules.{rules}
 use Rattle.decoding.proofs.read.read_image.Goals as goal
 use Rattle.decoding.proofs.read.read_image.Goals.{In-Accepted}
 

@@ -3,7 +3,6 @@ use Prim.Native.Nat.{ℕ, ◌≤◌}
 use mathlib.Core.Path.{sym, subst}
 use native.Mathlib.Nat.{le_refl}
 use lib.ListN.{length-replicate}
-use borrow.Author.Rules.{rules}
 use Rattle.exchange.proofs.settled.settled.Goals as goal
 
 pub is_idle-requires : goal.is_idle-requires

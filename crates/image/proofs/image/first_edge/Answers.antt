@@ -1,6 +1,5 @@
 -- `first_edge`: a word of the region of runs.
 use Rattle.image.proofs.ImageLaws.{first_read}
-use borrow.Author.Rules.{rules}
 use Rattle.image.proofs.image.first_edge.Goals as goal
 
 pub returns : goal.returns

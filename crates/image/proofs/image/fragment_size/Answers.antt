@@ -1,6 +1,5 @@
 -- `fragment_size`: a word of the sizes.
 use Rattle.image.proofs.ImageLaws.{fragment_size_read}
-use borrow.Author.Rules.{rules}
 use Rattle.image.proofs.image.fragment_size.Goals as goal
 
 pub returns : goal.returns

@@ -1,7 +1,6 @@
 -- `label`: a word of the region of labels.
 use mathlib.Core.Path.{sym}
 use Rattle.image.proofs.ImageLaws.{label_word}
-use borrow.Author.Rules.{rules}
 use Rattle.image.proofs.image.label.Goals as goal
 
 pub returns : goal.returns

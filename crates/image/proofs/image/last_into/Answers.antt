@@ -1,6 +1,5 @@
 -- `last_into`: a word of the chains' beginnings.
 use Rattle.image.proofs.ImageLaws.{last_read}
-use borrow.Author.Rules.{rules}
 use Rattle.image.proofs.image.last_into.Goals as goal
 
 pub returns : goal.returns

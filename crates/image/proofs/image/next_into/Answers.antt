@@ -1,6 +1,5 @@
 -- `next_into`: a word of the chains.
 use Rattle.image.proofs.ImageLaws.{next_read}
-use borrow.Author.Rules.{rules}
 use Rattle.image.proofs.image.next_into.Goals as goal
 
 pub returns : goal.returns

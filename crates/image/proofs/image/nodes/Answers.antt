@@ -1,6 +1,5 @@
 -- `nodes`: the fourth number of line 1.
 use Rattle.image.proofs.ImageLaws.{image_denotes, nodes_read}
-use borrow.Author.Rules.{rules}
 use Rattle.image.proofs.image.nodes.Goals as goal
 
 pub returns : goal.returns

@@ -1,6 +1,5 @@
 -- `owner`: a word of the region of owners.
 use Rattle.image.proofs.ImageLaws.{image_denotes, owner_read}
-use borrow.Author.Rules.{rules}
 use Rattle.image.proofs.image.owner.Goals as goal
 
 pub returns : goal.returns

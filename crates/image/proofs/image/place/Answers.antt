@@ -1,6 +1,5 @@
 -- `place`: a word of the region of places.
 use native.Mathlib.Omega.{arith}
-use borrow.Author.Rules.{rules}
 use Rattle.image.proofs.image.place.Goals as goal
 
 pub returns : goal.returns

@@ -1,6 +1,5 @@
 -- `source`: a word of the region of sources.
 use Rattle.image.proofs.ImageLaws.{image_denotes, source_read}
-use borrow.Author.Rules.{rules}
 use Rattle.image.proofs.image.source.Goals as goal
 
 pub returns : goal.returns

@@ -1,6 +1,5 @@
 -- `states`: the first number of line 1.
 use Rattle.image.proofs.ImageLaws.{image_denotes, states_read}
-use borrow.Author.Rules.{rules}
 use Rattle.image.proofs.image.states.Goals as goal
 
 pub returns : goal.returns

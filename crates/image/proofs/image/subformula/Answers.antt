@@ -6,7 +6,6 @@ use Rattle.job.specs.Written.{Operands}
 use Rattle.job.specs.declared.subformula.Subformula.{Subformula}
 use Rattle.image.specs.Image.{job_of}
 use Rattle.image.proofs.ImageLaws.{formula_read}
-use borrow.Author.Rules.{rules}
 use Rattle.image.proofs.image.subformula.Goals as goal
 use Rattle.image.proofs.image.subformula.Goals.{After-parse-line}
 

@@ -1,6 +1,5 @@
 -- `subformulas`: the third number of line 1.
 use Rattle.image.proofs.ImageLaws.{image_denotes, subformulas_read}
-use borrow.Author.Rules.{rules}
 use Rattle.image.proofs.image.subformulas.Goals as goal
 
 pub returns : goal.returns

@@ -1,6 +1,5 @@
 -- `target`: a word of the region of targets.
 use Rattle.image.proofs.ImageLaws.{image_denotes, target_read}
-use borrow.Author.Rules.{rules}
 use Rattle.image.proofs.image.target.Goals as goal
 
 pub returns : goal.returns

@@ -2,7 +2,6 @@
 use mathlib.Core.Path.{sym, ap}
 use Rattle.job.specs.Rule.{closed_value}
 use Rattle.job.proofs.RuleLaws.{closed_one, closed_zero}
-use borrow.Author.Rules.{rules}
 use Rattle.job.proofs.rule.closed_value.Goals as goal
 
 pub returns-in-Atom : goal.returns-in-Atom

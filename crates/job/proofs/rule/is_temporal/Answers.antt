@@ -1,7 +1,6 @@
 -- `is_temporal`: by rule.
 use mathlib.Core.Path.{sym, ap}
 use Rattle.job.specs.Rule.{temporal}
-use borrow.Author.Rules.{rules}
 use Rattle.job.proofs.rule.is_temporal.Goals as goal
 
 pub returns-in-Atom : goal.returns-in-Atom

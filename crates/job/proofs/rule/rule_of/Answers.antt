@@ -1,7 +1,6 @@
 -- `rule_of`: by kind.
 use mathlib.Core.Path.{sym, ap}
 use Rattle.job.specs.Rule.{rule_of}
-use borrow.Author.Rules.{rules}
 use Rattle.job.proofs.rule.rule_of.Goals as goal
 
 pub returns-in-Atom : goal.returns-in-Atom

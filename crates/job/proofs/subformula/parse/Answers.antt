@@ -3,7 +3,6 @@ use Prim.Native.Nat.{ℕ}
 use mathlib.Core.Path.{◌≡◌, sym, ap, ◌∙◌}
 use borrow.Author.Tests.{ne_eqb}
 use Rattle.job.specs.Formula.{parsed}
-use borrow.Author.Rules.{rules}
 use Rattle.job.proofs.subformula.parse.Goals as goal
 
 -- the kind that an arm knows

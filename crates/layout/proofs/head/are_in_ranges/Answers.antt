@@ -1,8 +1,6 @@
 -- `are_in_ranges`: the ranges of the definition, one after the other.
 use mathlib.Core.Path.{sym, ◌∙◌}
-use borrow.Author.Tests.{not-true, not-false}
 use Rattle.job.specs.Questions.{in_ranges}
-use borrow.Author.Rules.{rules}
 use Rattle.layout.proofs.head.are_in_ranges.Goals as goal
 
 pub returns-then-not-is_within : goal.returns-then-not-is_within

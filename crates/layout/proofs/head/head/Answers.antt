@@ -2,14 +2,13 @@
 use Prim.Native.Nat.{◌+◌, ◌*◌, ◌≤◌}
 use mathlib.Core.Path.{◌≡◌, sym, ◌∙◌}
 use mathlib.Core.Bool.{true}
-use borrow.Author.Tests.{not-true, not-false}
+use borrow.Author.Tests.{not-false}
 use lib.ListN.{length}
 use Rattle.text.specs.Field.{Text, formed}
 use Rattle.job.specs.Layout.{states, edges, subformulas, nodes, length_of}
 use Rattle.job.specs.Questions.{in_ranges}
 use Rattle.job.specs.Read.{read_told, header}
 use Rattle.job.proofs.LayoutLaws.{head_short, head_malformed, head_out_of_range, head_wrong_length, head_passes}
-use borrow.Author.Rules.{rules}
 use Rattle.layout.proofs.head.head.Goals as goal
 use Rattle.layout.proofs.head.head.Goals.{After-are_in_ranges}
 
@@ -53,7 +52,7 @@ length_asked c =
     )
 
 line_formed : (c : After-are_in_ranges) → formed (text_of c) 0 4 ≡ true
-line_formed c = sym c.is_formed.ensures ∙ not-false _ c.if-not-is_formed.false-raw
+line_formed c = sym c.is_formed.ensures ∙ c.if-not-is_formed.false
 
 long_enough : (c : After-are_in_ranges) → 21 ≤ length (text_of c)
 long_enough c = c.if-text-lt21.false

@@ -1,7 +1,6 @@
 -- `fields_in`: each return is a case of `fields_in`.
 use borrow.Author.Tests.{le-leb, lt-leb}
 use Rattle.layout.specs.Lines.{fields_in}
-use borrow.Author.Rules.{rules}
 use Rattle.layout.proofs.lines.fields_in.Goals as goal
 
 pub returns-then-number-le1 : goal.returns-then-number-le1

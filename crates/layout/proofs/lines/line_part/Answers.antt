@@ -10,7 +10,6 @@ use Rattle.job.specs.declared.reading.Header.{Header}
 use Rattle.job.proofs.LayoutLaws.{head_fits, line_refused, line_none, line_zero, line_past, line_starts, line_has, line_inside}
 use native.Mathlib.Omega.{arith}
 use Rattle.layout.proofs.LinesLaws.{fields_of_line, start_of_line}
-use borrow.Author.Rules.{rules}
 use Rattle.layout.proofs.lines.line_part.Goals as goal
 use Rattle.layout.proofs.lines.line_part.Goals.{After-fields_in, In-Accepted}
 

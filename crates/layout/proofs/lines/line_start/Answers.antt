@@ -1,7 +1,6 @@
 -- `line_start`: each return is a case of `start_of`.
 use borrow.Author.Tests.{le-leb, lt-leb}
 use Rattle.layout.specs.Lines.{start_of}
-use borrow.Author.Rules.{rules}
 use Rattle.layout.proofs.lines.line_start.Goals as goal
 
 pub returns-then-number-le1 : goal.returns-then-number-le1

@@ -2,7 +2,6 @@
 use borrow.Author.Tests.{eq-eqb, ne_eqb, not-true, not-false}
 use Rattle.law.proofs.Bool.{and_no_right}
 use Rattle.layout.specs.Lines.{right_after}
-use borrow.Author.Rules.{rules}
 use Rattle.layout.proofs.lines.right_after.Goals as goal
 
 pub returns-then-right-lines : goal.returns-then-right-lines
@@ -11,8 +10,8 @@ returns-then-right-lines c = simp (ne_eqb _ _ c.if-right-lines.true)
 
 pub returns-then-not-ok : goal.returns-then-not-ok
 unfolding right_after
-returns-then-not-ok c = simp (not-true c.args.ok c.if-not-ok.true-raw, and_no_right)
+returns-then-not-ok c = simp (c.if-not-ok.true, and_no_right)
 
 pub returns : goal.returns
 unfolding right_after
-returns c = simp (eq-eqb _ _ c.if-right-lines.false, not-false c.args.ok c.if-not-ok.false-raw)
+returns c = simp (eq-eqb _ _ c.if-right-lines.false, c.if-not-ok.false)

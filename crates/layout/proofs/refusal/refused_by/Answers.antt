@@ -1,7 +1,6 @@
 -- `refused_by`: by cases, as the definition.
 use mathlib.Core.Path.{sym, ap}
 use Rattle.job.specs.Read.{refusal_of}
-use borrow.Author.Rules.{rules}
 use Rattle.layout.proofs.refusal.refused_by.Goals as goal
 
 pub returns-in-Accepted : goal.returns-in-Accepted

@@ -1,7 +1,6 @@
 -- `is_subformula`: what the line is read as.
 use mathlib.Core.Path.{sym, ap, ◌∙◌}
 use Rattle.job.specs.Formula.{is_formula}
-use borrow.Author.Rules.{rules}
 use Rattle.line_reader.proofs.formula.is_subformula.Goals as goal
 
 pub returns-in-Formula : goal.returns-in-Formula

@@ -1,6 +1,5 @@
 -- `lay_head`: the first four words, one after the other.
 use native.Mathlib.Omega.{arith}
-use borrow.Author.Rules.{rules}
 use Rattle.line_reader.proofs.LineLaws.{head_laid}
 use Rattle.line_reader.proofs.lines.lay_head.Goals as goal
 

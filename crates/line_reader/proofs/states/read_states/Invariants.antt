@@ -1,13 +1,8 @@
 -- `read_states`: the state lines passed so far are well-formed, and their numbers laid.
 use Prim.Native.Nat.{◌-◌, ◌≤◌}
-use mathlib.Core.Path.{◌≡◌, sym, ◌∙◌, subst}
-use native.Mathlib.Omega.{arith}
-use Rattle.text.specs.Field.{Text}
 use Rattle.job.specs.Questions.{state_ok}
-use Rattle.job.specs.Leaves.{Fits}
-use Rattle.job.specs.declared.reading.Header.{Header}
 use Rattle.line_reader.specs.LinesRead.{state_formed, StatesLaid}
-use Rattle.line_reader.proofs.LineLaws.{SoFar, lines_none, lines_few, lines_stop, lines_done, states_none, state_stops, state_more}
+use Rattle.line_reader.proofs.LineLaws.{SoFar}
 use Rattle.line_reader.proofs.states.read_states.Given as goal
 
 abbrev pub invariant-loop-s : goal.invariant-loop-s

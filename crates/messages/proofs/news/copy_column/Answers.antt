@@ -1,12 +1,12 @@
 -- `copy_column`: the states passed so far have taken their owners' cells.
-use Prim.Native.Nat.{ℕ, ◌-◌, ◌<◌, ◌≤◌}
+use Prim.Native.Nat.{ℕ, ◌<◌}
 use mathlib.Core.Path.{◌≡◌, ◌∙◌}
 use mathlib.Core.Bool.{true}
 use mathlib.Core.List.{List}
 use Rattle.cells.specs.Fragment.{in_fragment}
 use Rattle.image.specs.Image.{job_of, fragment_size}
 use Rattle.table.specs.Lent.{Lent, IsCell}
-use Rattle.table.specs.Filling.{Leaves, part, of_column, Filling}
+use Rattle.table.specs.Filling.{Leaves, part, of_column}
 use Rattle.table.proofs.Parts.{leaves_long}
 use Rattle.table.proofs.FillingLoops.{filling_start, filling_cell, filling_turn, filling_over}
 use Rattle.messages.specs.News.{copied}

@@ -1,10 +1,10 @@
 -- `copy_news`: the subformulas passed so far are copied and have no news.
-use Prim.Native.Nat.{◌-◌, ◌<◌, ◌≤◌}
+use Prim.Native.Nat.{◌<◌}
 use mathlib.Core.Path.{◌≡◌, ◌∙◌}
 use Rattle.job.specs.Job.{subformula_count}
 use Rattle.image.specs.Image.{job_of}
 use Rattle.table.proofs.Parts.{leaves_long}
-use Rattle.messages.proofs.NewsLaws.{NewsUpTo, copied_lent, copied_few, all_none, next_copied, all_more, all_over}
+use Rattle.messages.proofs.NewsLaws.{copied_lent, copied_few, all_none, next_copied, all_more, all_over}
 use borrow.Author.Rules.{rules}
 use native.Mathlib.Omega.{arith}
 use Rattle.messages.proofs.news.copy_news.Goals as goal

@@ -1,12 +1,8 @@
 -- `copy_subformula`: the nodes passed so far are copied.
-use Prim.Native.Nat.{◌-◌, ◌≤◌}
 use mathlib.Core.Path.{◌≡◌, sym, ◌∙◌}
-use borrow.Author.Tests.{not-true, not-false}
 use Rattle.cells.specs.Close.{is_temporal}
 use Rattle.image.specs.Image.{job_of}
-use Rattle.table.specs.Filling.{up_to_node}
 use Rattle.table.proofs.Parts.{leaves_long}
-use Rattle.messages.specs.News.{PartCopied}
 use Rattle.messages.proofs.NewsLaws.{temporal_is, copied_lent, copied_few, nodes_none, nodes_next, nodes_done, news_none, news_some, news_plain}
 use borrow.Author.Rules.{rules}
 use native.Mathlib.Omega.{arith}

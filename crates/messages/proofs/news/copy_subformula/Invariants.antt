@@ -1,13 +1,9 @@
 -- `copy_subformula`: the nodes passed so far are copied.
 use Prim.Native.Nat.{◌-◌, ◌≤◌}
-use mathlib.Core.Path.{◌≡◌, sym, ◌∙◌}
-use Rattle.cells.specs.Close.{is_temporal}
+use mathlib.Core.Path.{◌≡◌}
 use Rattle.image.specs.Image.{job_of}
 use Rattle.table.specs.Filling.{up_to_node}
-use Rattle.table.proofs.Parts.{leaves_long}
 use Rattle.messages.specs.News.{PartCopied}
-use Rattle.messages.proofs.NewsLaws.{temporal_is, copied_lent, copied_few, nodes_none, nodes_next, nodes_done, news_none, news_some, news_plain}
-use native.Mathlib.Omega.{arith}
 use Rattle.messages.proofs.news.copy_subformula.Given as goal
 
 abbrev pub invariant-loop-n : goal.invariant-loop-n

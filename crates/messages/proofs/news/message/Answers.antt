@@ -1,7 +1,6 @@
 -- `message`: by its test.
 use mathlib.Core.Path.{◌∙◌}
 use Rattle.messages.proofs.NewsLaws.{message_none, message_owner}
-use borrow.Author.Rules.{rules}
 use Rattle.messages.proofs.news.message.Goals as goal
 
 pub returns-then-place-ne1 : goal.returns-then-place-ne1

@@ -2,7 +2,6 @@
 use mathlib.Core.Path.{sym, ap}
 use Rattle.job.specs.Answer.{numbers}
 use Rattle.calls.specs.Told.{look_told}
-use borrow.Author.Rules.{rules}
 use Rattle.numbers.proofs.answers.of_look.Goals as goal
 
 pub returns-in-Accepted : goal.returns-in-Accepted

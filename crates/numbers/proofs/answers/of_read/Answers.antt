@@ -2,7 +2,6 @@
 use mathlib.Core.Path.{sym, ap}
 use Rattle.job.specs.Answer.{numbers}
 use Rattle.job.specs.Read.{read_told}
-use borrow.Author.Rules.{rules}
 use Rattle.numbers.proofs.answers.of_read.Goals as goal
 
 pub returns-in-Accepted : goal.returns-in-Accepted

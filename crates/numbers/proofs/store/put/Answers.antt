@@ -2,7 +2,6 @@
 use mathlib.Core.Path.{sym}
 use native.Mathlib.Omega.{arith}
 use lib.Seq.{set_out}
-use borrow.Author.Rules.{rules}
 use Rattle.numbers.proofs.store.put.Goals as goal
 
 pub returns-then-out-at : goal.returns-then-out-at

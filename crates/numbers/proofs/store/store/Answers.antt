@@ -1,9 +1,7 @@
 -- `store`: after i turns the first i numbers are stored.
-use Prim.Native.Nat.{◌-◌, ◌≤◌}
-use mathlib.Core.Path.{◌≡◌, ap, ◌∙◌}
+use mathlib.Core.Path.{ap, ◌∙◌}
 use native.Mathlib.Omega.{arith}
 use lib.ListN.{length, take}
-use Rattle.numbers.specs.Stored.{stored}
 use Rattle.numbers.proofs.StoredLaws.{stored_length, stored_none, stored_more, stored_all}
 use borrow.Author.Rules.{rules}
 use Rattle.numbers.proofs.store.store.Goals as goal

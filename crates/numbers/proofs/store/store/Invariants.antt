@@ -1,10 +1,8 @@
 -- `store`: after i turns the first i numbers are stored.
 use Prim.Native.Nat.{◌-◌, ◌≤◌}
-use mathlib.Core.Path.{◌≡◌, ap, ◌∙◌}
-use native.Mathlib.Omega.{arith}
+use mathlib.Core.Path.{◌≡◌}
 use lib.ListN.{length, take}
 use Rattle.numbers.specs.Stored.{stored}
-use Rattle.numbers.proofs.StoredLaws.{stored_length, stored_none, stored_more, stored_all}
 use Rattle.numbers.proofs.store.store.Given as goal
 
 abbrev pub invariant-loop-i : goal.invariant-loop-i

@@ -2,7 +2,6 @@
 use mathlib.Core.Path.{sym, ◌∙◌}
 use Rattle.job.specs.Read.{read_told}
 use Rattle.reader.proofs.ReaderLaws.{asked_5, asked_6, asked_7, asked_8, asked_none}
-use borrow.Author.Rules.{rules}
 use Rattle.reader.proofs.read.ask_lines.Goals as goal
 
 pub returns-then-s-h : goal.returns-then-s-h

@@ -10,7 +10,6 @@ use Rattle.job.specs.declared.reading.Header.{Header}
 use Rattle.job.proofs.LayoutLaws.{head_fits}
 use Rattle.job.proofs.ReadLaws.{read_head_refused}
 use Rattle.reader.proofs.ReaderLaws.{malformed_state, malformed_edge, malformed_formula, found_few, askable, refused_read, all_read}
-use borrow.Author.Rules.{rules}
 use Rattle.reader.proofs.read.read_numbers.Goals as goal
 use Rattle.reader.proofs.read.read_numbers.Goals.{In-Accepted}
 

@@ -1,7 +1,6 @@
 -- `finish_table`: the rounds, and the verdict read behind them.
 use Rattle.cells.specs.Calls.{left}
 use Rattle.rounds.proofs.FinishLaws.{finished_ready, finished_told, finished_rounds}
-use borrow.Author.Rules.{rules}
 use native.Mathlib.Omega.{arith}
 use Rattle.rounds.proofs.finish.finish_table.Goals as goal
 

@@ -1,8 +1,6 @@
 -- `run`: the rounds so far are the first of finish.
-use Prim.Native.Nat.{◌+◌, ◌-◌}
+use Prim.Native.Nat.{◌+◌}
 use mathlib.Core.Path.{◌≡◌, sym, ◌∙◌}
-use lib.ListN.{length}
-use Rattle.cells.specs.Rest.{Tracked}
 use Rattle.cells.proofs.Tracked.{all_tracked}
 use Rattle.image.specs.Image.{job_of}
 use Rattle.exchange.proofs.ReadyLaws.{job_of_lem, ready_formed, formed_ready, ready_small}

@@ -1,7 +1,6 @@
 -- `close_open`: the smallest open subformula, if there is one.
 use Rattle.rounds.proofs.RunningLaws.{ran_closing_none, ran_closing}
 use native.Mathlib.Omega.{arith}
-use borrow.Author.Rules.{rules}
 use Rattle.rounds.proofs.round.close_open.Goals as goal
 
 pub smallest_open-k-requires : goal.smallest_open-k-requires

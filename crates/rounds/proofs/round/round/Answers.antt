@@ -1,7 +1,6 @@
 -- `round`: the exchange, and close where that fills nothing.
 use Rattle.exchange.proofs.RunningLaws.{exchanged_running}
 use Rattle.rounds.proofs.RunningLaws.{ran_round, exchange_settled, ran_closed}
-use borrow.Author.Rules.{rules}
 use Rattle.rounds.proofs.round.round.Goals as goal
 
 pub returns-then-exchanged-ne0 : goal.returns-then-exchanged-ne0

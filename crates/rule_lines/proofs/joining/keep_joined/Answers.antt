@@ -1,5 +1,4 @@
 -- `keep_joined`: operator by operator.
-use borrow.Author.Rules.{rules}
 use Rattle.job.specs.Formula.{fields}
 use Rattle.rule_lines.specs.Joining.{join_kept}
 use Rattle.rule_lines.proofs.joining.keep_joined.Goals as goal

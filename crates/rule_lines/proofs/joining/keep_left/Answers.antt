@@ -1,5 +1,4 @@
 -- `keep_left`: operator by operator.
-use borrow.Author.Rules.{rules}
 use Rattle.job.specs.Formula.{fields}
 use Rattle.rule_lines.specs.Joining.{left_kept}
 use Rattle.rule_lines.proofs.JoiningLaws.{holds_kept_same}

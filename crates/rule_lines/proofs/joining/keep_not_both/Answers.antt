@@ -1,5 +1,4 @@
 -- `keep_not_both`: three lines, one after the other.
-use borrow.Author.Rules.{rules}
 use Rattle.rule_lines.proofs.JoiningLaws.{holds_kept_not_both}
 use Rattle.rule_lines.proofs.joining.keep_not_both.Goals as goal
 

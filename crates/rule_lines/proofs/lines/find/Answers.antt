@@ -1,10 +1,7 @@
 -- `find`: none of the lines before `k` is the one looked for.
-use Prim.Native.Nat.{◌-◌}
 use mathlib.Core.Path.{sym, ◌∙◌}
-use mathlib.Core.List.{[], ◌∷◌}
 use borrow.Author.Rules.{rules}
-use Rattle.rule_lines.specs.Held.{words}
-use Rattle.rule_lines.proofs.HeldLaws.{Sought, sought_start, sought_here, sought_next, sought_none, found_held}
+use Rattle.rule_lines.proofs.HeldLaws.{sought_start, sought_here, sought_next, sought_none, found_held}
 use Rattle.rule_lines.proofs.lines.find.Goals as goal
 
 pub returns-then-is_line : goal.returns-then-is_line

@@ -1,9 +1,8 @@
 -- `find`: none of the lines before `k` is the one looked for.
 use Prim.Native.Nat.{◌-◌}
-use mathlib.Core.Path.{sym, ◌∙◌}
 use mathlib.Core.List.{[], ◌∷◌}
 use Rattle.rule_lines.specs.Held.{words}
-use Rattle.rule_lines.proofs.HeldLaws.{Sought, sought_start, sought_here, sought_next, sought_none, found_held}
+use Rattle.rule_lines.proofs.HeldLaws.{Sought}
 use Rattle.rule_lines.proofs.lines.find.Given as goal
 
 abbrev pub invariant-loop-k : goal.invariant-loop-k

@@ -1,6 +1,5 @@
 -- `is_line`: word by word.
 use mathlib.Core.Bool.{and-true}
-use borrow.Author.Rules.{rules}
 use borrow.Author.Tests.{eq-eqb, ne_eqb}
 use Rattle.rule_text.specs.Lines.{equal}
 use Rattle.rule_lines.specs.Held.{words}

@@ -1,5 +1,4 @@
 -- `right_level`: by its test.
-use borrow.Author.Rules.{rules}
 use Rattle.rule_places.proofs.BindingLaws.{right_leftward, right_rightward}
 use Rattle.rule_places.proofs.binding.right_level.Goals as goal
 

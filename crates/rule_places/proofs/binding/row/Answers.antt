@@ -1,6 +1,5 @@
 -- `row`: operator by operator.
 use mathlib.Core.Path.{sym, ap}
-use borrow.Author.Rules.{rules}
 use Rattle.rule_places.specs.Binding.{row_of}
 use Rattle.rule_places.proofs.binding.row.Goals as goal
 

@@ -1,15 +1,13 @@
 -- `mark_at`: the token is no mark, another mark, or this one.
-use borrow.Author.Rules.{rules}
 use mathlib.Core.Path.{ap, refl, ◌∙◌}
 use Rattle.rule_text.specs.declared.token.Token.TheVariants.{Mark}
 use Rattle.rule_places.specs.Places.{Marked}
 use Rattle.rule_places.proofs.PlaceLaws.{known, scans_passes, scans_starts, other_token_mark, other_mark}
-use borrow.Enum.Refused.{opened}
 use Rattle.rule_places.proofs.places.mark_at.Goals as goal
 
 pub returns-in_default : goal.returns-in_default
 unfolding Marked
-returns-in_default c = other_token_mark _ _ _ _ (opened c.in_default.in_default-own.keys2) c.token_at-s.ensures.starts
+returns-in_default c = other_token_mark _ _ _ _ c.in_default.not-Mark c.token_at-s.ensures.starts
 
 pub returns-then-d-c : goal.returns-then-d-c
 unfolding Marked

@@ -1,15 +1,13 @@
 -- `operator_at`: the token is no operator, one that is too weak, or the operator that follows.
 use mathlib.Core.Path.{◌∙◌}
-use borrow.Author.Rules.{rules}
 use Rattle.rule_places.specs.Places.{Follows}
 use Rattle.rule_places.proofs.BindingLaws.{binding_strength, binding_few, binding_right}
 use Rattle.rule_places.proofs.PlaceLaws.{scans_starts, scans_infix, other_token_ends, weak_operator_ends}
-use borrow.Enum.Refused.{opened}
 use Rattle.rule_places.proofs.places.operator_at.Goals as goal
 
 pub returns-in_default : goal.returns-in_default
 unfolding Follows
-returns-in_default c = other_token_ends _ _ _ _ (opened c.in_default.in_default-own.keys2) c.token_at-s.ensures.starts
+returns-in_default c = other_token_ends _ _ _ _ c.in_default.not-Operator c.token_at-s.ensures.starts
 
 pub returns-then-b-least : goal.returns-then-b-least
 unfolding Follows

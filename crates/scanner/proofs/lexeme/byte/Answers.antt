@@ -1,7 +1,6 @@
 -- `byte`: behind the end there is none.
 use mathlib.Core.Path.{sym}
 use lib.ListN.{get_or-eq_default}
-use borrow.Author.Rules.{rules}
 use Rattle.scanner.proofs.lexeme.byte.Goals as goal
 
 pub returns-then-text-at : goal.returns-then-text-at

@@ -1,5 +1,4 @@
 -- `is_teens_atom`: its three tests are those of the definition, in order.
-use borrow.Author.Rules.{rules}
 use Rattle.scanner.proofs.LexemeLaws.{tests}
 use Rattle.scanner.proofs.lexeme.is_teens_atom.Goals as goal
 

@@ -1,5 +1,4 @@
 -- `is_units_atom`: its two tests are those of the definition.
-use borrow.Author.Rules.{rules}
 use Rattle.scanner.proofs.LexemeLaws.{tests}
 use Rattle.scanner.proofs.lexeme.is_units_atom.Goals as goal
 

@@ -1,5 +1,4 @@
 -- `letter`: its test is that of the definition.
-use borrow.Author.Rules.{rules}
 use Rattle.rule_text.specs.Scan.{word1}
 use Rattle.scanner.proofs.LexemeLaws.{tests}
 use Rattle.scanner.proofs.lexeme.letter.Goals as goal

@@ -1,5 +1,4 @@
 -- `letter_or_digit`: its three ranges are those of the definition, in order.
-use borrow.Author.Rules.{rules}
 use Rattle.rule_text.specs.Token.{letter_or_digit}
 use Rattle.scanner.proofs.LexemeLaws.{tests}
 use Rattle.scanner.proofs.lexeme.letter_or_digit.Goals as goal

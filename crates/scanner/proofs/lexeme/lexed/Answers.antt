@@ -1,5 +1,4 @@
 -- `lexed`: its tests are those of the definition, in order.
-use borrow.Author.Rules.{rules}
 use Rattle.rule_text.specs.Scan.{lexed}
 use Rattle.scanner.proofs.LexemeLaws.{not_told, cond_yes, cond_no}
 use Rattle.scanner.proofs.lexeme.lexed.Goals as goal

@@ -1,6 +1,5 @@
 -- `lexeme`: the four bytes from `at` on.
 use mathlib.Core.Path.{refl, ◌∙◌}
-use borrow.Author.Rules.{rules}
 use Rattle.scanner.proofs.ScanLaws.{bytes_decide, lexeme_inside}
 use Rattle.scanner.proofs.lexeme.lexeme.Goals as goal
 

@@ -1,5 +1,4 @@
 -- `pair`: its tests are those of the definition, in order.
-use borrow.Author.Rules.{rules}
 use Rattle.rule_text.specs.Scan.{word2}
 use Rattle.scanner.proofs.LexemeLaws.{tests, units_from}
 use Rattle.scanner.proofs.lexeme.pair.Goals as goal

@@ -1,5 +1,4 @@
 -- `symbol`: its tests are those of the definition, in order.
-use borrow.Author.Rules.{rules}
 use Rattle.rule_text.specs.Scan.{symbol}
 use Rattle.scanner.proofs.LexemeLaws.{tests}
 use Rattle.scanner.proofs.lexeme.symbol.Goals as goal

@@ -1,5 +1,4 @@
 -- `triple`: its test is that of the definition.
-use borrow.Author.Rules.{rules}
 use Rattle.rule_text.specs.Scan.{word3}
 use Rattle.scanner.proofs.LexemeLaws.{tests, teens_from}
 use Rattle.scanner.proofs.lexeme.triple.Goals as goal

@@ -1,9 +1,7 @@
 -- `skip_spaces`: the tokens from `i` on stay the same while spaces are walked over.
-use Prim.Native.Nat.{◌-◌}
 use native.Mathlib.Omega.{arith}
 use borrow.Author.Rules.{rules}
-use lib.ListN.{length}
-use Rattle.scanner.proofs.ScanLaws.{Walked, walked_start, walked_space, walked_stop}
+use Rattle.scanner.proofs.ScanLaws.{walked_start, walked_space, walked_stop}
 use Rattle.scanner.proofs.scan.skip_spaces.Goals as goal
 
 pub loop-i-init : goal.loop-i-init

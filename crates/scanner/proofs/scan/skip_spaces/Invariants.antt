@@ -1,8 +1,7 @@
 -- `skip_spaces`: the tokens from `i` on stay the same while spaces are walked over.
 use Prim.Native.Nat.{◌-◌}
-use native.Mathlib.Omega.{arith}
 use lib.ListN.{length}
-use Rattle.scanner.proofs.ScanLaws.{Walked, walked_start, walked_space, walked_stop}
+use Rattle.scanner.proofs.ScanLaws.{Walked}
 use Rattle.scanner.proofs.scan.skip_spaces.Given as goal
 
 abbrev pub invariant-loop-i : goal.invariant-loop-i

@@ -1,6 +1,5 @@
 -- `selahmur_accept`: the numbers of the answer, and the table that `accept` leaves.
 use Rattle.selahmur.proofs.AnswerLaws.{stored_told}
-use borrow.Author.Rules.{rules}
 use Rattle.selahmur.proofs.message.selahmur_accept.Goals as goal
 
 pub returns : goal.returns

@@ -1,6 +1,5 @@
 -- `selahmur_offer`: the numbers of the answer, and the table that `offer` leaves.
 use Rattle.selahmur.proofs.AnswerLaws.{stored_told}
-use borrow.Author.Rules.{rules}
 use Rattle.selahmur.proofs.message.selahmur_offer.Goals as goal
 
 pub returns : goal.returns

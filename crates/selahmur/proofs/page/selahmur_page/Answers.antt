@@ -1,6 +1,5 @@
 -- `selahmur_page`: the numbers of the answer, and the table and the buffer that `page` leaves.
 use Rattle.selahmur.proofs.AnswerLaws.{stored_told}
-use borrow.Author.Rules.{rules}
 use Rattle.selahmur.proofs.page.selahmur_page.Goals as goal
 
 pub returns : goal.returns

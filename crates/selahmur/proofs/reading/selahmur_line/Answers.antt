@@ -2,7 +2,6 @@
 use mathlib.Core.Path.{ap₂, ◌∙◌}
 use mathlib.Core.List.{[], ◌∷◌}
 use Rattle.numbers.specs.Stored.{stored}
-use borrow.Author.Rules.{rules}
 use Rattle.selahmur.proofs.reading.selahmur_line.Goals as goal
 
 pub returns : goal.returns

@@ -1,6 +1,5 @@
 -- `selahmur_read`: the numbers of the answer.
 use Rattle.selahmur.proofs.AnswerLaws.{stored_told}
-use borrow.Author.Rules.{rules}
 use Rattle.selahmur.proofs.reading.selahmur_read.Goals as goal
 
 pub returns : goal.returns

@@ -1,6 +1,5 @@
 -- `selahmur_rule`: the numbers of the answer, and the buffer that `rule` leaves.
 use Rattle.selahmur.proofs.AnswerLaws.{stored_told}
-use borrow.Author.Rules.{rules}
 use Rattle.selahmur.proofs.rule.selahmur_rule.Goals as goal
 
 pub returns : goal.returns

@@ -1,6 +1,5 @@
 -- `selahmur_close`: the numbers of the answer, and the table that `close` leaves.
 use Rattle.selahmur.proofs.AnswerLaws.{stored_told}
-use borrow.Author.Rules.{rules}
 use Rattle.selahmur.proofs.work.selahmur_close.Goals as goal
 
 pub returns : goal.returns

@@ -1,6 +1,5 @@
 -- `selahmur_finish`: the numbers of the answer, and the table that `finish` leaves.
 use Rattle.selahmur.proofs.AnswerLaws.{stored_told}
-use borrow.Author.Rules.{rules}
 use Rattle.selahmur.proofs.work.selahmur_finish.Goals as goal
 
 pub returns : goal.returns

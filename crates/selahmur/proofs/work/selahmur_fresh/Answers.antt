@@ -1,6 +1,5 @@
 -- `selahmur_fresh`: the numbers of the answer, and the table that `fresh` leaves.
 use Rattle.selahmur.proofs.AnswerLaws.{stored_told}
-use borrow.Author.Rules.{rules}
 use Rattle.selahmur.proofs.work.selahmur_fresh.Goals as goal
 
 pub returns : goal.returns

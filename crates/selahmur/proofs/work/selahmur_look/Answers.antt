@@ -1,6 +1,5 @@
 -- `selahmur_look`: the numbers of the answer, and the table that `look` leaves.
 use Rattle.selahmur.proofs.AnswerLaws.{stored_told}
-use borrow.Author.Rules.{rules}
 use Rattle.selahmur.proofs.work.selahmur_look.Goals as goal
 
 pub returns : goal.returns

@@ -1,9 +1,7 @@
 -- `fill_by_sets`: no empty cell, or the two sets give the values.
 use mathlib.Core.Path.{sym, ◌∙◌}
 use native.Mathlib.Omega.{arith}
-use borrow.Author.Tests.{not-true}
 use Rattle.sets.proofs.SetLaws.{value_low, sets_filled, no_empty_filled}
-use borrow.Author.Rules.{rules}
 use Rattle.sets.proofs.sets.fill_by_sets.Goals as goal
 
 pub returns-then-not-has_empty : goal.returns-then-not-has_empty

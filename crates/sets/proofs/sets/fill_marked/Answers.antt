@@ -1,11 +1,8 @@
 -- `fill_marked`: the states passed so far have the values of their marks.
-use Prim.Native.Nat.{◌-◌, ◌<◌, ◌≤◌}
+use Prim.Native.Nat.{◌<◌}
 use mathlib.Core.Path.{◌≡◌, sym, ◌∙◌}
 use Rattle.image.specs.Image.{job_of, fragment_size}
-use Rattle.table.specs.Filling.{Filling}
 use Rattle.table.proofs.FillingLoops.{filling_start, filling_cell, filling_turn, filling_over}
-use Rattle.sets.specs.Marks.{set_values}
-use borrow.Author.Rules.{rules}
 use native.Mathlib.Omega.{arith}
 use Rattle.sets.proofs.sets.fill_marked.Goals as goal
 

@@ -1,11 +1,7 @@
 -- `fill_marked`: the states passed so far have the values of their marks.
-use Prim.Native.Nat.{◌-◌, ◌<◌, ◌≤◌}
-use mathlib.Core.Path.{◌≡◌, sym, ◌∙◌}
-use Rattle.image.specs.Image.{job_of, fragment_size}
+use Prim.Native.Nat.{◌-◌, ◌≤◌}
 use Rattle.table.specs.Filling.{Filling}
-use Rattle.table.proofs.FillingLoops.{filling_start, filling_cell, filling_turn, filling_over}
 use Rattle.sets.specs.Marks.{set_values}
-use native.Mathlib.Omega.{arith}
 use Rattle.sets.proofs.sets.fill_marked.Given as goal
 
 abbrev pub invariant-loop-i : goal.invariant-loop-i

@@ -1,9 +1,9 @@
 -- `has_empty`: the states passed so far have filled cells.
-use Prim.Native.Nat.{ℕ, ◌-◌, ◌<◌, ◌≤◌}
+use Prim.Native.Nat.{◌<◌}
 use mathlib.Core.Path.{◌≡◌}
 use borrow.Author.Count.{below_none, below_more}
 use Rattle.image.specs.Image.{job_of, fragment_size}
-use Rattle.sets.proofs.SetLaws.{filled_at, empty_found, empty_passed, empty_none}
+use Rattle.sets.proofs.SetLaws.{empty_found, empty_passed, empty_none}
 use native.Mathlib.Omega.{arith}
 use Rattle.sets.proofs.sets.has_empty.Goals as goal
 

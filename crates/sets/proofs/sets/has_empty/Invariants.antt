@@ -1,9 +1,7 @@
 -- `has_empty`: the states passed so far have filled cells.
 use Prim.Native.Nat.{ℕ, ◌-◌, ◌<◌, ◌≤◌}
-use mathlib.Core.Path.{◌≡◌}
-use Rattle.image.specs.Image.{job_of, fragment_size}
-use Rattle.sets.proofs.SetLaws.{filled_at, empty_found, empty_passed, empty_none}
-use native.Mathlib.Omega.{arith}
+use Rattle.image.specs.Image.{job_of}
+use Rattle.sets.proofs.SetLaws.{filled_at}
 use Rattle.sets.proofs.sets.has_empty.Given as goal
 
 abbrev pub invariant-loop-i : goal.invariant-loop-i

@@ -1,7 +1,6 @@
 -- `mark`: by its tests, over the cells that were read before each.
 use mathlib.Core.Path.{refl}
 use Rattle.sets.proofs.MarkLaws.{mark_own, mark_other, mark_border, mark_start, mark_grow, mark_no_join, mark_by_cells}
-use borrow.Author.Rules.{rules}
 use Rattle.sets.proofs.sets.mark.Goals as goal
 
 pub returns-then-own-by : goal.returns-then-own-by

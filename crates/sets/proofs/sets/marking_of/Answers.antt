@@ -1,6 +1,5 @@
 -- `marking_of`: both conditions as the cells that are wanted.
 use mathlib.Core.Path.{refl}
-use borrow.Author.Rules.{rules}
 use Rattle.sets.proofs.sets.marking_of.Goals as goal
 
 pub returns : goal.returns

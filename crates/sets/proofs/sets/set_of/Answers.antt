@@ -1,10 +1,9 @@
 -- `set_of`: the states passed so far are marked, and in the end the marks spread.
-use Prim.Native.Nat.{◌-◌, ◌<◌, ◌≤◌}
+use Prim.Native.Nat.{◌<◌}
 use mathlib.Core.Path.{◌≡◌}
 use Rattle.image.specs.Image.{job_of, fragment_size}
 use Rattle.sets.specs.Marks.{mark_at, Marks}
 use Rattle.sets.proofs.MarkLaws.{marks_start, marks_more, marks_end, cells_in, mark_read, marks_join, marks_set}
-use borrow.Author.Rules.{rules}
 use native.Mathlib.Omega.{arith}
 use Rattle.sets.proofs.sets.set_of.Goals as goal
 use Rattle.sets.proofs.sets.set_of.Goals.{After-fragment_state-s, After-marks-1}

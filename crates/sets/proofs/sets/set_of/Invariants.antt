@@ -1,10 +1,7 @@
 -- `set_of`: the states passed so far are marked, and in the end the marks spread.
-use Prim.Native.Nat.{◌-◌, ◌<◌, ◌≤◌}
-use mathlib.Core.Path.{◌≡◌}
-use Rattle.image.specs.Image.{job_of, fragment_size}
+use Prim.Native.Nat.{◌-◌, ◌≤◌}
+use Rattle.image.specs.Image.{job_of}
 use Rattle.sets.specs.Marks.{mark_at, Marks}
-use Rattle.sets.proofs.MarkLaws.{marks_start, marks_more, marks_end, cells_in, mark_read, marks_join, marks_set}
-use native.Mathlib.Omega.{arith}
 use Rattle.sets.proofs.sets.set_of.Given as goal
 
 abbrev pub invariant-loop-i : goal.invariant-loop-i

@@ -2,7 +2,6 @@
 use borrow.Author.Tests.{eq-eqb, ne_eqb}
 use Rattle.sets.specs.Marks.{set_value}
 use Rattle.cells.specs.Table.{is_empty}
-use borrow.Author.Rules.{rules}
 use Rattle.sets.proofs.sets.set_value.Goals as goal
 
 pub returns-then-small-eq2 : goal.returns-then-small-eq2

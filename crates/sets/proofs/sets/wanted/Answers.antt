@@ -1,7 +1,6 @@
 -- `wanted`: by the condition's case.
 use mathlib.Core.Path.{sym, ap}
 use Rattle.sets.specs.Marks.{wanted}
-use borrow.Author.Rules.{rules}
 use Rattle.sets.proofs.sets.wanted.Goals as goal
 
 pub returns-in-Always : goal.returns-in-Always

@@ -1,11 +1,7 @@
 -- `spread`: the states of the queue before its head are told.
-use Prim.Native.Nat.{◌-◌, ◌≤◌}
-use mathlib.Core.Path.{refl}
-use mir.Syntax.{w64}
-use native.Mathlib.Omega.{arith}
+use Prim.Native.Nat.{◌-◌}
 use Rattle.image.specs.Image.{job_of}
 use Rattle.spread.specs.Underway.{Spreading}
-use Rattle.spread.proofs.Worklist.{list_start, list_room, list_over}
 use Rattle.spread.proofs.spread.spread.Given as goal
 
 abbrev pub invariant-loop-head : goal.invariant-loop-head

@@ -1,12 +1,11 @@
 -- `start`: the states of the fragment's list passed so far are queued where they have mark 2.
-use Prim.Native.Nat.{◌-◌, ◌≤◌, ◌<◌}
+use Prim.Native.Nat.{◌<◌}
 use mathlib.Core.Path.{◌≡◌}
-use mathlib.Core.Logic.{⊎_elim}
 use borrow.Author.Rules.{Fits-under}
 use mir.Syntax.{w8, w64}
 use native.Mathlib.Omega.{arith}
 use Rattle.image.specs.Image.{job_of, fragment_size}
-use Rattle.spread.proofs.Queue.{QueuedBelow, start_none, start_rest, start_room, start_push, start_over}
+use Rattle.spread.proofs.Queue.{start_none, start_rest, start_room, start_push, start_over}
 use Rattle.spread.proofs.spread.start.Goals as goal
 use Rattle.spread.proofs.spread.start.Goals.{In-loop-i, Then-marks-s-eq2, else-marks-s-eq2, then-marks-s-eq2}
 

@@ -1,11 +1,7 @@
 -- `start`: the states of the fragment's list passed so far are queued where they have mark 2.
-use Prim.Native.Nat.{◌-◌, ◌≤◌, ◌<◌}
-use mathlib.Core.Path.{◌≡◌}
-use mathlib.Core.Logic.{⊎_elim}
-use mir.Syntax.{w8, w64}
-use native.Mathlib.Omega.{arith}
-use Rattle.image.specs.Image.{job_of, fragment_size}
-use Rattle.spread.proofs.Queue.{QueuedBelow, start_none, start_rest, start_room, start_push, start_over}
+use Prim.Native.Nat.{◌-◌, ◌≤◌}
+use Rattle.image.specs.Image.{job_of}
+use Rattle.spread.proofs.Queue.{QueuedBelow}
 use Rattle.spread.proofs.spread.start.Given as goal
 
 abbrev pub invariant-loop-i : goal.invariant-loop-i

@@ -2,7 +2,6 @@
 use Prim.Native.Nat.{ℕ, ◌-◌, ◌<◌}
 use mathlib.Core.Path.{◌≡◌}
 use mathlib.Core.List.{List}
-use mathlib.Core.Logic.{⊎_elim}
 use borrow.Author.Rules.{scaled_Fits, Fits-under}
 use lib.Dec.{lit<}
 use mir.Syntax.{w8, w16, w64}

@@ -2,14 +2,12 @@
 use mathlib.Core.Path.{sym, subst}
 use Rattle.job.specs.Rule.{InRange}
 use Rattle.stepping.proofs.ColumnLaws.{stepped_by, not_sets}
-use borrow.Author.Rules.{rules}
-use borrow.Enum.Refused.{opened}
 use Rattle.stepping.proofs.column.step_column.Goals as goal
 
 pub fill_values-requires : goal.fill_values-requires
 fill_values-requires c =
     let pre = c.requires in
-    record { lent = pre.ready.lent; n_bound = (pre.n_bound.0, pre.n_bound.1, pre.n_bound.2, not_sets _ (opened c.in_default.in_default-own.keys2)) }
+    record { lent = pre.ready.lent; n_bound = (pre.n_bound.0, pre.n_bound.1, pre.n_bound.2, not_sets _ c.in_default.not-Sets) }
 
 pub returns-in_default : goal.returns-in_default
 returns-in_default c = c.fill_values.ensures

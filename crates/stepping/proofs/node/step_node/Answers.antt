@@ -1,7 +1,6 @@
 -- `step_node`: with every column marked the marks are right.
 use mathlib.Core.Path.{refl}
 use Rattle.cells.proofs.Tracked.{all_tracked}
-use borrow.Author.Rules.{rules}
 use Rattle.stepping.proofs.node.step_node.Goals as goal
 
 pub step_stale-requires : goal.step_stale-requires

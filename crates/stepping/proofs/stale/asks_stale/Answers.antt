@@ -3,7 +3,6 @@ use mathlib.Core.Path.{refl, subst}
 use Rattle.job.specs.Rule.{AsksSmaller}
 use Rattle.law.specs.Lists.{some}
 use Rattle.stepping.proofs.StaleLaws.{asks_case, asks_one}
-use borrow.Author.Rules.{rules}
 use Rattle.stepping.proofs.stale.asks_stale.Goals as goal
 
 pub is_stale-requires : goal.is_stale-requires

@@ -1,7 +1,5 @@
 -- `clear_row`: the marks passed so far are gone.
-use Prim.Native.Nat.{◌-◌, ◌≤◌}
 use mathlib.Core.Path.{◌≡◌}
-use Rattle.cells.specs.Rest.{column_byte, BytesAre}
 use Rattle.cells.proofs.Tracked.{bytes_none, bytes_more}
 use borrow.Author.Rules.{rules}
 use native.Mathlib.Omega.{arith}

@@ -1,9 +1,6 @@
 -- `clear_row`: the marks passed so far are gone.
 use Prim.Native.Nat.{◌-◌, ◌≤◌}
-use mathlib.Core.Path.{◌≡◌}
 use Rattle.cells.specs.Rest.{column_byte, BytesAre}
-use Rattle.cells.proofs.Tracked.{bytes_none, bytes_more}
-use native.Mathlib.Omega.{arith}
 use Rattle.stepping.proofs.stale.clear_row.Given as goal
 
 abbrev pub invariant-loop-k : goal.invariant-loop-k

@@ -1,7 +1,6 @@
 -- `is_stale`: by definition.
 use mathlib.Core.Path.{refl}
 use Rattle.cells.specs.Rest.{is_stale}
-use borrow.Author.Rules.{rules}
 use Rattle.stepping.proofs.stale.is_stale.Goals as goal
 
 pub returns : goal.returns

@@ -1,12 +1,12 @@
 -- `step_stale`: the columns passed so far are worked.
-use Prim.Native.Nat.{◌-◌, ◌<◌, ◌≤◌}
+use Prim.Native.Nat.{◌<◌}
 use mathlib.Core.Path.{sym, ◌∙◌}
 use borrow.Author.Rules.{rules}
 use native.Mathlib.Omega.{arith}
 use Rattle.job.specs.Job.{subformula_count}
 use Rattle.image.specs.Image.{job_of}
 use Rattle.stepping.specs.Stale.{Resting}
-use Rattle.stepping.proofs.WorkedLaws.{WorkedUpTo, worked_none, node_small, column_next, worked_more, worked_few, worked_over}
+use Rattle.stepping.proofs.WorkedLaws.{worked_none, node_small, column_next, worked_more, worked_few, worked_over}
 use Rattle.stepping.proofs.stale.step_stale.Goals as goal
 use Rattle.stepping.proofs.stale.step_stale.Goals.{In-loop-k, Start}
 

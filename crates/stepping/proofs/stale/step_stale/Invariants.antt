@@ -1,11 +1,7 @@
 -- `step_stale`: the columns passed so far are worked.
-use Prim.Native.Nat.{◌-◌, ◌<◌, ◌≤◌}
-use mathlib.Core.Path.{sym, ◌∙◌}
-use native.Mathlib.Omega.{arith}
-use Rattle.job.specs.Job.{subformula_count}
+use Prim.Native.Nat.{◌-◌, ◌≤◌}
 use Rattle.image.specs.Image.{job_of}
-use Rattle.stepping.specs.Stale.{Resting}
-use Rattle.stepping.proofs.WorkedLaws.{WorkedUpTo, worked_none, node_small, column_next, worked_more, worked_few, worked_over}
+use Rattle.stepping.proofs.WorkedLaws.{WorkedUpTo}
 use Rattle.stepping.proofs.stale.step_stale.Given as goal
 
 abbrev pub invariant-loop-k : goal.invariant-loop-k

@@ -1,7 +1,6 @@
 -- `work_column`: left out, worked for nothing, or marked.
 use Prim.Native.Nat.{◌<◌}
 use mathlib.Core.Path.{◌≡◌, sym, ◌∙◌, ap, subst}
-use borrow.Author.Tests.{not-true}
 use borrow.Author.Rules.{rules}
 use native.Mathlib.Omega.{arith}
 use Rattle.job.specs.Rule.{rule_of, rule_at, InRange}

@@ -1,5 +1,4 @@
 -- `cell`: the byte of the cell.
-use borrow.Author.Rules.{rules}
 use Rattle.table.proofs.CellLaws.{cell_is}
 use Rattle.table.proofs.cell.cell.Goals as goal
 

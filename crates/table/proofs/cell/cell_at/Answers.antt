@@ -1,6 +1,5 @@
 -- `cell_at`: no product is large.
 use native.Mathlib.Omega.{arith}
-use borrow.Author.Rules.{rules}
 use Rattle.image.specs.Image.{job_of}
 use Rattle.table.proofs.CellLaws.{row_small, byte_small, byte_is}
 use Rattle.table.proofs.cell.cell_at.Goals as goal

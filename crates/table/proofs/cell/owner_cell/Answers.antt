@@ -1,5 +1,4 @@
 -- `owner_cell`: the cell at the owner.
-use borrow.Author.Rules.{rules}
 use mathlib.Core.Path.{◌∙◌}
 use Rattle.table.proofs.CellLaws.{owner_is}
 use Rattle.table.proofs.cell.owner_cell.Goals as goal

@@ -1,6 +1,5 @@
 -- `put`: by its tests.
 use native.Mathlib.Omega.{arith}
-use borrow.Author.Rules.{rules}
 use Rattle.table.proofs.CellLaws.{put_full, put_two, put_done}
 use Rattle.table.proofs.cell.put.Goals as goal
 

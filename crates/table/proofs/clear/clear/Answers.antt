@@ -1,5 +1,4 @@
 -- `clear`: the bytes passed so far are 2.
-use Prim.Native.Nat.{◌-◌, ◌≤◌}
 use mathlib.Core.Path.{◌≡◌, refl, ap, ◌∙◌}
 use mathlib.Core.List.{◌++◌, append-nil}
 use borrow.Author.Fill.{fill_none, fill_more}

@@ -6,7 +6,6 @@ use lib.Dec.{ltb, eqb}
 use mathlib.Core.Bool.{not, ◌&&◌}
 use Rattle.law.proofs.Bool.{and_no_right, not_is_false, cond_false}
 use Rattle.text.specs.Decimal.{digit_column}
-use borrow.Author.Rules.{rules}
 use Rattle.text.proofs.decimal.digit_column.Goals as goal
 
 pub returns-then-p-eq1 : goal.returns-then-p-eq1

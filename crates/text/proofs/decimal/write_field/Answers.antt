@@ -4,7 +4,6 @@ use lib.ListN.{length-set}
 use Rattle.text.specs.Decimal.{decimal}
 use native.Mathlib.Numerals.{towards_suc}
 use native.Mathlib.Omega.{arith}
-use borrow.Author.Rules.{rules}
 use Rattle.text.proofs.decimal.write_field.Goals as goal
 
 pub bounds-out-at-2 : goal.bounds-out-at-2

@@ -1,8 +1,6 @@
 -- `write_line`: a number more, and byte 10 behind the last.
-use Prim.Native.Nat.{◌-◌}
 use mathlib.Core.Path.{refl}
-use lib.ListN.{length}
-use Rattle.law.proofs.Pieces.{Written, written_start, written_next, written_end}
+use Rattle.law.proofs.Pieces.{written_start, written_next, written_end}
 use Rattle.text.proofs.WriteLaws.{short_at, field_of, fields_length, line_written}
 use borrow.Author.Rules.{rules}
 use native.Mathlib.Omega.{arith}

@@ -1,10 +1,8 @@
 -- `write_line`: a number more, and byte 10 behind the last.
 use Prim.Native.Nat.{◌-◌}
-use mathlib.Core.Path.{refl}
 use lib.ListN.{length}
-use Rattle.law.proofs.Pieces.{Written, written_start, written_next, written_end}
-use Rattle.text.proofs.WriteLaws.{short_at, field_of, fields_length, line_written}
-use native.Mathlib.Omega.{arith}
+use Rattle.law.proofs.Pieces.{Written}
+use Rattle.text.proofs.WriteLaws.{field_of}
 use Rattle.text.proofs.decimal.write_line.Given as goal
 
 abbrev pub invariant-loop-i : goal.invariant-loop-i

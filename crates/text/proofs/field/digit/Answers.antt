@@ -2,7 +2,6 @@
 use mathlib.Core.Path.{refl}
 use Rattle.text.proofs.FieldLaws.{digit_range}
 use native.Mathlib.Omega.{arith}
-use borrow.Author.Rules.{rules}
 use Rattle.text.proofs.field.digit.Goals as goal
 
 pub overflow_sub-result : goal.overflow_sub-result

@@ -1,8 +1,7 @@
 -- `is_formed`: the line is well-formed if what is left of it is.
-use Prim.Native.Nat.{◌+◌, ◌-◌, ◌*◌, ◌≤◌}
+use Prim.Native.Nat.{◌+◌, ◌-◌, ◌*◌}
 use mathlib.Core.Path.{◌≡◌, sym, ◌∙◌}
 use native.Mathlib.Nat.{add-zero, sub-zero}
-use Rattle.text.specs.Field.{formed}
 use Rattle.text.proofs.FieldLaws.{formed_malformed, formed_field, formed_end}
 use borrow.Author.Rules.{rules}
 use native.Mathlib.Omega.{arith}

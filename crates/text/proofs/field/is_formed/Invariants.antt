@@ -1,10 +1,7 @@
 -- `is_formed`: the line is well-formed if what is left of it is.
 use Prim.Native.Nat.{◌+◌, ◌-◌, ◌*◌, ◌≤◌}
-use mathlib.Core.Path.{◌≡◌, sym, ◌∙◌}
-use native.Mathlib.Nat.{add-zero, sub-zero}
+use mathlib.Core.Path.{◌≡◌}
 use Rattle.text.specs.Field.{formed}
-use Rattle.text.proofs.FieldLaws.{formed_malformed, formed_field, formed_end}
-use native.Mathlib.Omega.{arith}
 use Rattle.text.proofs.field.is_formed.Given as goal
 
 abbrev pub invariant-loop-i : goal.invariant-loop-i

@@ -3,11 +3,10 @@ use Prim.Native.Nat.{◌+◌}
 use mathlib.Core.Path.{◌≡◌, ◌∙◌, sym}
 use mathlib.Core.Bool.{true}
 use lib.ListN.{get_or}
-use borrow.Author.Tests.{not-true, not-false}
+use borrow.Author.Tests.{not-false}
 use Rattle.text.specs.Field.{is_digit}
 use Rattle.text.proofs.FieldLaws.{columns_none, columns_no_digit, columns_digit}
 use native.Mathlib.Omega.{arith}
-use borrow.Author.Rules.{rules}
 use Rattle.text.proofs.field.read_field.Goals as goal
 use Rattle.text.proofs.field.read_field.Goals.{Else-not-is_digit}
 
@@ -34,7 +33,7 @@ digit_here :
     (c.args.at + c.spaces-skipped.result)
     0)
     ≡ true
-digit_here c = sym c.is_digit.ensures ∙ not-false _ c.if-not-is_digit.false-raw
+digit_here c = sym c.is_digit.ensures ∙ c.if-not-is_digit.false
 
 pub digit-requires : goal.digit-requires
 digit-requires c = digit_here (goal.at.digit-requires c).Else-not-is_digit

@@ -1,9 +1,7 @@
 -- `spaces`: the field is what is left of it behind the spaces read so far.
-use Prim.Native.Nat.{◌+◌, ◌-◌, ◌≤◌}
-use mathlib.Core.Path.{◌≡◌, ◌∙◌}
+use Prim.Native.Nat.{◌+◌}
+use mathlib.Core.Path.{◌∙◌}
 use native.Mathlib.Nat.{add_assoc}
-use lib.Seq.{slice}
-use Rattle.text.specs.Field.{columns, field}
 use Rattle.text.proofs.FieldLaws.{field_slice, columns_space}
 use borrow.Author.Rules.{rules}
 use native.Mathlib.Omega.{arith}

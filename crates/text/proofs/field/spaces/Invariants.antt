@@ -1,11 +1,8 @@
 -- `spaces`: the field is what is left of it behind the spaces read so far.
 use Prim.Native.Nat.{◌+◌, ◌-◌, ◌≤◌}
-use mathlib.Core.Path.{◌≡◌, ◌∙◌}
-use native.Mathlib.Nat.{add_assoc}
+use mathlib.Core.Path.{◌≡◌}
 use lib.Seq.{slice}
 use Rattle.text.specs.Field.{columns, field}
-use Rattle.text.proofs.FieldLaws.{field_slice, columns_space}
-use native.Mathlib.Omega.{arith}
 use Rattle.text.proofs.field.spaces.Given as goal
 
 abbrev pub invariant-loop-i : goal.invariant-loop-i

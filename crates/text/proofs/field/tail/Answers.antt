@@ -1,12 +1,11 @@
 -- `tail`: the number so far and the columns left give the whole.
-use Prim.Native.Nat.{◌+◌, ◌-◌, ◌^◌, ◌≤◌, ◌<◌}
+use Prim.Native.Nat.{◌+◌, ◌-◌, ◌<◌}
 use mathlib.Core.Path.{◌≡◌, ◌∙◌, sym, refl}
 use mathlib.Core.Bool.{true}
 use lib.ListN.{get_or}
-use lib.Seq.{slice}
 use native.Mathlib.Nat.{add-sub_cancel_left}
-use borrow.Author.Tests.{not-true, not-false}
-use Rattle.text.specs.Field.{is_digit, digits}
+use borrow.Author.Tests.{not-false}
+use Rattle.text.specs.Field.{is_digit}
 use Rattle.text.proofs.FieldLaws.{digits_no_digit, digits_behind_zero, digits_digit, digits_none, digit_more, digits_small}
 use borrow.Author.Rules.{rules}
 use native.Mathlib.Omega.{arith}
@@ -14,7 +13,7 @@ use Rattle.text.proofs.field.tail.Goals as goal
 use Rattle.text.proofs.field.tail.Goals.{Else-not-is_digit, In-loop-i}
 
 digit_here : (c : Else-not-is_digit) → is_digit (get_or c.args.text.now c.loop-i.i 0) ≡ true
-digit_here c = sym c.is_digit.ensures ∙ not-false _ c.if-not-is_digit.false-raw
+digit_here c = sym c.is_digit.ensures ∙ c.if-not-is_digit.false
 
 small : (c : In-loop-i) → c.loop-i.value < 100000
 small c =

@@ -3,7 +3,6 @@ use mathlib.Core.Path.{◌≡◌, sym, ◌∙◌}
 use Rattle.text.specs.Field.{field}
 use Rattle.text.specs.declared.field.Field.TheVariants.{Number}
 use Rattle.text.proofs.FieldsLaws.{pair_no_first, pair_no_second, pair_no_end, pair_read}
-use borrow.Author.Rules.{rules}
 use Rattle.text.proofs.fields.read_pair.Goals as goal
 use Rattle.text.proofs.fields.read_pair.Goals.{In-Number}
 

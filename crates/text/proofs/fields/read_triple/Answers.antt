@@ -1,7 +1,6 @@
 -- `read_triple`: a field, and the line of two that is left.
 use mathlib.Core.Path.{sym, ◌∙◌}
 use Rattle.text.proofs.FieldsLaws.{triple_no_first, triple_no_rest, triple_read}
-use borrow.Author.Rules.{rules}
 use Rattle.text.proofs.fields.read_triple.Goals as goal
 
 pub returns-in_default : goal.returns-in_default

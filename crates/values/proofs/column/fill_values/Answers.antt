@@ -1,14 +1,10 @@
 -- `fill_values`: the states passed so far have their values.
-use Prim.Native.Nat.{◌-◌, ◌<◌, ◌≤◌}
+use Prim.Native.Nat.{◌<◌}
 use mathlib.Core.Path.{◌≡◌, sym, ◌∙◌}
-use mathlib.Core.Logic.{⊎_elim}
 use Rattle.image.specs.Image.{job_of, fragment_size}
-use Rattle.table.specs.Filling.{Filling}
 use Rattle.table.proofs.FillingLoops.{filling_start, filling_cell, filling_over}
-use Rattle.values.specs.Values.{values}
 use Rattle.job.proofs.RuleLaws.{range_up}
 use Rattle.values.proofs.ColumnLaws.{values_turn, values_kept, filling_is, values_filled}
-use borrow.Author.Rules.{rules}
 use native.Mathlib.Omega.{arith}
 use Rattle.values.proofs.column.fill_values.Goals as goal
 use Rattle.values.proofs.column.fill_values.Goals.{else-cell-eq2, then-cell-eq2}

@@ -1,8 +1,5 @@
 -- `meets`: the edges passed so far do not decide.
-use Prim.Native.Nat.{◌-◌, ◌≤◌}
-use Rattle.image.specs.Image.{job_of}
-use Rattle.values.proofs.ValueLaws.{Agreed, met_early, met_more, met_over}
-use borrow.Author.Rules.{rules}
+use Rattle.values.proofs.ValueLaws.{met_early, met_more, met_over}
 use native.Mathlib.Omega.{arith}
 use Rattle.values.proofs.value.meets.Goals as goal
 

@@ -1,8 +1,7 @@
 -- `meets`: the edges passed so far do not decide.
 use Prim.Native.Nat.{◌-◌, ◌≤◌}
 use Rattle.image.specs.Image.{job_of}
-use Rattle.values.proofs.ValueLaws.{Agreed, met_early, met_more, met_over}
-use native.Mathlib.Omega.{arith}
+use Rattle.values.proofs.ValueLaws.{Agreed}
 use Rattle.values.proofs.value.meets.Given as goal
 
 abbrev pub invariant-loop-e : goal.invariant-loop-e

@@ -1,6 +1,5 @@
 -- `next`: by its tests.
 use Rattle.values.proofs.ValueLaws.{next_border, next_yes, next_no, next_open}
-use borrow.Author.Rules.{rules}
 use Rattle.values.proofs.value.next.Goals as goal
 
 pub returns-then-place-ne2 : goal.returns-then-place-ne2

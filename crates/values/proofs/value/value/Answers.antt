@@ -4,7 +4,6 @@ use Rattle.job.specs.Rule.{InRange}
 use Rattle.cells.specs.Step.{opposite, both}
 use Rattle.values.specs.Values.{value_at}
 use Rattle.values.proofs.ValueLaws.{atom_value, by_case}
-use borrow.Author.Rules.{rules}
 use native.Mathlib.Omega.{arith}
 use Rattle.values.proofs.value.value.Goals as goal
 
