@@ -26,7 +26,8 @@ use Rattle.cells.specs.Table.{is_empty}
 use Rattle.cells.specs.SetRule.{SetRule, set_rule, smallest, largest, by_sets}
 use Rattle.cells.specs.Step.{opposite, both, next, known, column}
 use Rattle.cells.specs.Sets.{Joins, already, starts, grows, Stays, other, blocked, follows}
-use Rattle.cells.proofs.Sets.{smallest_is, largest_is, largest_apart}
+use Rattle.cells.proofs.Sets.{smallest_is, largest_is}
+use Rattle.cells.proofs.SetsApart.{largest_apart}
 use Rattle.cells.proofs.Repeat.{by_sets_at}
 use Rattle.job.proofs.Successors.{over_within, over_share}
 use Rattle.cells.proofs.FragmentLaws.{edge_bound}

@@ -1,6 +1,8 @@
 pub mod Printed
 pub mod SetForms
+pub mod SetReasons
 pub mod Sets
+pub mod SetsApart
 pub mod Index
 pub mod Fill
 pub mod Kept

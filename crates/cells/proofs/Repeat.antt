@@ -20,7 +20,9 @@ use Rattle.cells.specs.SetRule.{SetRule, smallest, largest, by_sets}
 use Rattle.cells.proofs.Fill.{is_empty_lem, not_empty}
 use Rattle.cells.specs.Sets.{Joins, already, starts, grows, Stays, other, blocked, follows}
 use Rattle.cells.proofs.SetForms.{stays_monotone, stays_intro}
-use Rattle.cells.proofs.Sets.{smallest_is, smallest_no_other, stays_reason, largest_is}
+use Rattle.cells.proofs.SetReasons.{stays_reason}
+use Rattle.cells.proofs.Sets.{smallest_is, largest_is}
+use Rattle.cells.proofs.SetsApart.{smallest_no_other}
 
 pub inner_inside : (J : Job) (n s : ℕ) → inner J n s ≡ true → in_fragment J n s ≡ true
 unfolding inner
