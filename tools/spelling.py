@@ -3,11 +3,10 @@
 
 usage: tools/spelling.py [--names]        at the top of the repository; with --names it writes nothing and lists each name with its new spelling
 
-To be run once, behind /opt/rattle/port/port.py. Types and modules stay, and so does each name that a file imports from a library. A lemma that would
+To be run once, behind the toolchain's port.py. Types and modules stay, and so does each name that a file imports from a library. A lemma that would
 meet the definition that it is about gets `_lem`. A name that follows from one of the source (a step `read-field` of a call of read_field) is spelled as
 the source has it. In a .rt file what stands in clauses and `ghost use` lines is turned, and camel case in comments.
 """
-import collections
 import os
 import re
 import sys
@@ -18,7 +17,6 @@ STRING = re.compile(r'"(?:[^"\\\n]|\\.)*"')
 CAMEL = re.compile(r"^[a-z][\w'₀-₉]*[A-Z][\w'₀-₉]*$")
 DASHED = re.compile(r"^[a-z0-9][\w'₀-₉]*(-[\w'₀-₉]+)+$")
 USE = re.compile(r"(?m)^\s*(?:pub )?(?:ghost )?use ([^\s;{]+?)(?:\.\{([^}]*)\})?(?: as \S+)?;?$")
-GHOST_USE = re.compile(r"ghost use [^;]*;")
 # Words of Rattle's: goals, places and fields of the walks, and what it makes of a function.
 MADE = re.compile(r"^(?:Need-|Else|Then|After-|In-|At-|if-|loop-|in-|invariant-|decreases-|well-formed|type-inv)")
 # A field that would meet a definition beside it; lemmas in snake case already that would meet their definition.
@@ -115,13 +113,6 @@ def main():
                 if stem in items or re.sub(r"_(requires|ensures|spec|arg)$", "", stem) in items:
                     return snake(word)
             return word
-
-        def words(part):
-            return re.sub(
-                r'(?:([^\s(){}.;,@"«»]+)\.)?(?<![^\s(){}.;,@"«»])([^\s(){}.;,@"«»]+)',
-                lambda m: (m[1] + "." if m[1] else "") + turn(m[2], m[1] or ("c" if m.start(2) > 0 and part[m.start(2) - 1] == "." else "")),
-                part,
-            )
 
         def chain(part):
             """Each dotted chain from its head."""
