@@ -1,52 +1,52 @@
--- What each case of a call's enum says, in the documents' numbers. Assumes nothing.
-use Rattle.std.specs.Prelude.{ℕ, [], ◌∷◌}
-use Rattle.job.specs.Answer.{Answer, accepted, refused}
-use Rattle.job.specs.declared.reading.Refusal.{Refusal}
-use Rattle.calls.specs.declared.fresh.Cleared as cleared
-use Rattle.calls.specs.declared.step.Stepped as stepped
-use Rattle.calls.specs.declared.offer.Offered as offered
-use Rattle.calls.specs.declared.accept.Delivered as delivered
-use Rattle.calls.specs.declared.look.Looked as looked
-use Rattle.calls.specs.declared.close.Closed as closed
-use Rattle.calls.specs.declared.finish.Finished as finished
-use Rattle.calls.specs.declared.page.Paged as paged
+-- What a call's result says in numbers: its own, or the refusal's, with zeros in their place. Assumes nothing.
+use Rattle.std.specs.Prelude.{ℕ, List, [], ◌∷◌, Result, Ok, Err}
+use Rattle.job.specs.Answer.{Answer}
+use Rattle.job.specs.Refused.{told}
+use Rattle.job.specs.declared.refusal.Refusal.{Refusal}
+use Rattle.closing.specs.declared.Closing.{Closing}
+use Rattle.rounds.specs.declared.finish.Outcome.{Outcome}
+use Rattle.calls.specs.declared.offer.Message.{Message}
 
-abbrev by : Refusal → ℕ → Answer
-by why others = refused why.number why.line others
+abbrev pub none : Unit {0} → List ℕ
+none _ = []
 
-unfoldable pub fresh_told : cleared.Cleared → Answer
-fresh_told cleared.TheVariants.Accepted = accepted []
-fresh_told (cleared.TheVariants.Refused why) = by why 0
+abbrev pub one : ℕ → List ℕ
+one n = n ∷ []
 
-unfoldable pub step_told : stepped.Stepped → Answer
-step_told (stepped.TheVariants.Accepted filled) = accepted (filled ∷ [])
-step_told (stepped.TheVariants.Refused why) = by why 1
+abbrev pub message_numbers : Message → List ℕ
+message_numbers m = m.state ∷ m.subformula ∷ m.value ∷ []
 
-unfoldable pub offer_told : offered.Offered → Answer
-offer_told (offered.TheVariants.Accepted m) = accepted (m.state ∷ m.subformula ∷ m.value ∷ [])
-offer_told (offered.TheVariants.Refused why) = by why 3
+abbrev pub closing_numbers : Closing → List ℕ
+closing_numbers c = c.subformula ∷ c.filled ∷ []
 
-unfoldable pub accept_told : delivered.Delivered → Answer
-accept_told (delivered.TheVariants.Accepted filled) = accepted (filled ∷ [])
-accept_told (delivered.TheVariants.Refused why) = by why 1
+abbrev pub outcome_numbers : Outcome → List ℕ
+outcome_numbers o = o.verdict ∷ o.rounds ∷ o.cells ∷ []
 
-unfoldable pub look_told : looked.Looked → Answer
-look_told (looked.TheVariants.Accepted cell) = accepted (cell ∷ [])
-look_told (looked.TheVariants.Refused why) = by why 1
+unfoldable pub fresh_told : Result Unit Refusal → Answer
+fresh_told r = told none 0 r
 
-unfoldable pub close_told : closed.Closed → Answer
-close_told (closed.TheVariants.Accepted c) = accepted (c.subformula ∷ c.filled ∷ [])
-close_told (closed.TheVariants.Refused why) = by why 2
+unfoldable pub step_told : Result ℕ Refusal → Answer
+step_told r = told one 1 r
 
-unfoldable pub finish_told : finished.Finished → Answer
-finish_told (finished.TheVariants.Accepted o) = accepted (o.verdict ∷ o.rounds ∷ o.cells ∷ [])
-finish_told (finished.TheVariants.Refused why) = by why 3
+unfoldable pub offer_told : Result Message Refusal → Answer
+offer_told r = told message_numbers 3 r
 
-unfoldable pub page_told : paged.Paged → Answer
-page_told paged.TheVariants.Accepted = accepted []
-page_told (paged.TheVariants.Refused why) = by why 0
+unfoldable pub accept_told : Result ℕ Refusal → Answer
+accept_told r = told one 1 r
+
+unfoldable pub look_told : Result ℕ Refusal → Answer
+look_told r = told one 1 r
+
+unfoldable pub close_told : Result Closing Refusal → Answer
+close_told r = told closing_numbers 2 r
+
+unfoldable pub finish_told : Result Outcome Refusal → Answer
+finish_told r = told outcome_numbers 3 r
+
+unfoldable pub page_told : Result Unit Refusal → Answer
+page_told r = told none 0 r
 
 -- The rounds done, 0 where finish is refused.
-unfoldable pub finish_rounds : finished.Finished → ℕ
-finish_rounds (finished.TheVariants.Accepted o) = o.rounds
-finish_rounds (finished.TheVariants.Refused why) = 0
+unfoldable pub finish_rounds : Result Outcome Refusal → ℕ
+finish_rounds (Ok o) = o.rounds
+finish_rounds (Err why) = 0

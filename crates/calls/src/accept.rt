@@ -4,40 +4,29 @@ ghost use Rattle.cells.specs.Calls.{Call, answer, after};
 ghost use Rattle.calls.specs.Told.{accept_told};
 
 use crate::offer::Message;
-use asking::{Asking, ask};
-use job::reading::Refusal;
+use decoding::read::read_image;
+use job::refusal::Refusal;
+use questions::ask_accept;
 use table::cell::put;
 
-// With how many cells are filled, 0 or 1.
-#[derive(Clone, Copy)]
-pub enum Delivered {
-    Accepted(usize),
-    Refused(Refusal),
-}
-
-// A node's cell at a border state takes a message's value, if it is empty.
-pub fn accept(text: &[u8], table: &mut [u8], node: usize, message: Message) -> Delivered
+// A node's cell at a border state takes a message's value, if it is empty. Answers how many cells are filled, 0 or 1.
+pub fn accept(
+    text: &[u8],
+    table: &mut [u8],
+    node: usize,
+    message: Message,
+) -> Result<usize, Refusal>
     ensures told { accept_told result
         ≡ answer (Call.accept node message.state message.subformula message.value) text.now table.old }
     ensures left { table.new
         ≡ after (Call.accept node message.state message.subformula message.value) text.now table.old }
 {
-    let mut m = [0u16; 13165];
-    let why = ask(
-        text,
-        &mut m,
-        table,
-        Asking::Accept(node, message.state, message.subformula, message.value),
-    );
-    if why.number != 0 {
-        return Delivered::Refused(why);
-    }
-    Delivered::Accepted(put(
-        &m,
-        table,
-        node,
-        message.state,
-        message.subformula,
-        message.value,
-    ))
+    let Message {
+        state,
+        subformula,
+        value,
+    } = message;
+    let m = read_image(text)?;
+    ask_accept(&m, table, node, state, subformula, value)?;
+    Ok(put(&m, table, node, state, subformula, value))
 }

@@ -5,26 +5,18 @@ ghost use Rattle.cells.specs.Table.{empty_cells};
 ghost use Rattle.cells.specs.Calls.{Call, answer, after};
 ghost use Rattle.calls.specs.Told.{finish_told, finish_rounds};
 
-use asking::{Asking, ask};
-use job::reading::Refusal;
+use decoding::read::read_image;
+use job::refusal::Refusal;
+use questions::ask_table;
 use rounds::finish::{Outcome, finish_table};
 
-#[derive(Clone, Copy)]
-pub enum Finished {
-    Accepted(Outcome),
-    Refused(Refusal),
-}
-
 // Rounds until one fills nothing: at most one more than there are empty cells.
-pub fn finish(text: &[u8], table: &mut [u8]) -> Finished
+pub fn finish(text: &[u8], table: &mut [u8]) -> Result<Outcome, Refusal>
     ensures told { finish_told result ≡ answer Call.finish text.now table.old }
     ensures left { table.new ≡ after Call.finish text.now table.old }
     ensures bounded { finish_rounds result ≤ empty_cells (job_in text.now) table.old + 1 }
 {
-    let mut m = [0u16; 13165];
-    let why = ask(text, &mut m, table, Asking::Finish);
-    if why.number != 0 {
-        return Finished::Refused(why);
-    }
-    Finished::Accepted(finish_table(&m, table))
+    let m = read_image(text)?;
+    ask_table(&m, table)?;
+    Ok(finish_table(&m, table))
 }

@@ -4,28 +4,18 @@ ghost use Rattle.cells.specs.Calls.{Call, answer, after};
 ghost use Rattle.calls.specs.Told.{fresh_told};
 
 use crate::read::read;
-use job::reading::{Reading, Refusal};
-use layout::refusal::refused_by;
+use job::refusal::Refusal;
 use table::clear::clear;
 
-#[derive(Clone, Copy)]
-pub enum Cleared {
-    Accepted,
-    Refused(Refusal),
-}
-
 // Makes a table of the job's length fresh, whatever it holds. A refusal leaves every byte.
-pub fn fresh(text: &[u8], table: &mut [u8]) -> Cleared
+pub fn fresh(text: &[u8], table: &mut [u8]) -> Result<(), Refusal>
     ensures told { fresh_told result ≡ answer Call.fresh text.now table.old }
     ensures left { table.new ≡ after Call.fresh text.now table.old }
 {
-    let reading = read(text);
-    let Reading::Accepted(h) = reading else {
-        return Cleared::Refused(refused_by(reading));
-    };
+    let h = read(text)?;
     if table.len() != h.nodes * h.states * h.subformulas {
-        return Cleared::Refused(Refusal { number: 9, line: 0 });
+        return Err(Refusal::TableLength);
     }
     clear(table);
-    Cleared::Accepted
+    Ok(())
 }

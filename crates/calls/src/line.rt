@@ -8,8 +8,8 @@ use layout::lines::line_part;
 pub fn line(text: &[u8], number: usize) -> &[u8]
     ensures { result.now ≡ line_of text.now number }
 {
-    let part = line_part(text, number);
-    let start = part.start;
-    let end = start + part.size;
-    &text[start..end]
+    match line_part(text, number) {
+        Some(part) => &text[part.start..part.start + part.size],
+        None => &text[..0],
+    }
 }

@@ -3,35 +3,27 @@ ghost use Rattle.std.specs.Prelude.{◌≡◌};
 ghost use Rattle.cells.specs.Calls.{Call, answer, after};
 ghost use Rattle.calls.specs.Told.{offer_told};
 
-use asking::{Asking, ask};
-use job::reading::Refusal;
+use decoding::read::read_image;
+use job::refusal::Refusal;
+use questions::ask_offer;
 use table::cell::owner_cell;
 
 // What a node tells of a state that it owns.
-#[derive(Clone, Copy)]
+#[derive(Clone, Copy, Debug, PartialEq, Eq)]
 pub struct Message {
     pub state: usize,
     pub subformula: usize,
     pub value: u8,
 }
 
-#[derive(Clone, Copy)]
-pub enum Offered {
-    Accepted(Message),
-    Refused(Refusal),
-}
-
 // Hands out a message from the owner's cell. The table stays.
-pub fn offer(text: &[u8], table: &[u8], state: usize, subformula: usize) -> Offered
+pub fn offer(text: &[u8], table: &[u8], state: usize, subformula: usize) -> Result<Message, Refusal>
     ensures told { offer_told result ≡ answer (Call.offer state subformula) text.now table.now }
     ensures left { table.now ≡ after (Call.offer state subformula) text.now table.now }
 {
-    let mut m = [0u16; 13165];
-    let why = ask(text, &mut m, table, Asking::Offer(state, subformula));
-    if why.number != 0 {
-        return Offered::Refused(why);
-    }
-    Offered::Accepted(Message {
+    let m = read_image(text)?;
+    ask_offer(&m, table, state, subformula)?;
+    Ok(Message {
         state,
         subformula,
         value: owner_cell(&m, table, state, subformula),

@@ -2,10 +2,11 @@
 ghost use Rattle.std.specs.Prelude.{◌≡◌};
 ghost use Rattle.job.specs.Read.{read_told, read_answer};
 
-use job::reading::Reading;
+use job::reading::Header;
+use job::refusal::Refusal;
 
 // The numbers of line 1, or the refusal.
-pub fn read(text: &[u8]) -> Reading
+pub fn read(text: &[u8]) -> Result<Header, Refusal>
     ensures { read_told result ≡ read_answer text.now }
 {
     reader::read::read(text)

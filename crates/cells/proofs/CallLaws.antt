@@ -19,12 +19,12 @@ use Rattle.job.specs.Job.{Job, size, subformula_count, decode}
 use Rattle.job.specs.Answer.{Answer, accepted, refused}
 use Rattle.job.specs.Question.{is_own, of_call, refusal, no_number}
 use Rattle.job.specs.Questions.{text_questions, Accepted}
-use Rattle.job.specs.Read.{read_answer, read_told, refusal_of}
+use Rattle.job.specs.Read.{read_answer, read_told}
+use Rattle.job.specs.Refused.{number_of, line_of_refusal}
 use Rattle.job.specs.Written.{IsJob}
 use Rattle.job.specs.declared.reading.Header.{Header}
-use Rattle.job.specs.declared.reading.Refusal.{Refusal}
-use Rattle.job.specs.declared.reading.Reading.{Reading}
-use Rattle.job.specs.declared.reading.Reading.TheVariants.{Accepted as Taken, Refused}
+use Rattle.job.specs.declared.refusal.Refusal.{Refusal}
+use Rattle.std.proofs.Common.{Ok, Err}
 use Rattle.job.proofs.QuestionLaws.{no_number_yes, no_number_no, later_accepted, later_refused}
 use Rattle.job.proofs.ReadLaws.{text_refuses, reading_refuses, size_told, subformulas_told, nodes_told}
 use Rattle.cells.specs.Table.{Table, table_length, fresh_table}
@@ -53,11 +53,9 @@ module _ (c : Call) (x : Text) (t : Table) where
   text_refused = text_refuses x (own_questions c (decode x) t) (width c) (told c (decode x) t) t (left c (decode x) t)
 
   pub reading_refused :
-      (reading : Reading) (why by : Refusal)
-      → read_told reading ≡ read_answer x
-      → reading ≡ Refused why
-      → by ≡ refusal_of reading
-      → (refused by.number by.line (width c) ≡ answer c x t) × (t ≡ after c x t)
+      (why : Refusal)
+      → read_told (Err why) ≡ read_answer x
+      → (refused (number_of why) (line_of_refusal why) (width c) ≡ answer c x t) × (t ≡ after c x t)
   unfolding questions answer after
   reading_refused = reading_refuses x (own_questions c (decode x) t) (width c) (told c (decode x) t) t (left c (decode x) t)
 
@@ -107,7 +105,7 @@ module _ (x : Text) (t : Table) (is : Accepted x) where
 
 -- the table's length, in the numbers that the reader gives
 pub length_read :
-    (x : Text) (h : Header) → read_told (Taken h) ≡ read_answer x → table_length (decode x) ≡ h.nodes * h.states * h.subformulas
+    (x : Text) (h : Header) → read_told (Ok h) ≡ read_answer x → table_length (decode x) ≡ h.nodes * h.states * h.subformulas
 unfolding table_length
 length_read x h told = ap₂ ◌*◌ (ap₂ ◌*◌ (nodes_told x h told) (size_told x h told)) (subformulas_told x h told)
 

@@ -43,10 +43,10 @@ module _
     sets_closed sets n s node i e =
         let k = smallest_open J t in
         let r = rule_at J k in
-        let q = quantifier sets.all in
-        let b = sets.start in
-        let a = sets.grow in
-        let v = sets.value in
+        let q = quantifier sets.growth.all in
+        let b = sets.growth.start in
+        let a = sets.growth.grow in
+        let v = sets.growth.value in
         let (lb, la, small) = sets_range k r sets (job.operands k some) in
         let U : ℕ → Bool = reached J.structure q (meets (truth J) b) (meets (truth J) a) in
         let truths : (s : ℕ) → truth J k s ≡ valued v (U s) =
@@ -61,7 +61,7 @@ module _
         (record {
           tells =
               λ n node.
-              reads_sets J (truth J) k (at n) sets.all b a v (rw sets.is at (job.operands k some))
+              reads_sets J (truth J) k (at n) sets.growth (rw sets.is at (job.operands k some))
               (rw sets.is at (sound_reads J job t sound n k node some));
           low = λ n s. cell_low J t sound.formed n s k;
           started = λ n s node i. filled n s node i b lb;

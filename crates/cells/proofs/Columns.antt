@@ -106,11 +106,11 @@ module _ (J : Job) (n k : ℕ) (at' at : ℕ → ℕ → ℕ) where
       tab_same _ _ (size J) 0 (λ s l. ap₂ both (same 0 (omega arith) s (inl l)) (same 1 (omega arith) s (inl l)))
   column_reads (Next all a) same own =
       tab_same _ _ (size J) 0 (λ s l. next_same J n (quantifier all) (at' a) (at a) (same 0 (omega arith)) s)
-  column_reads (Sets all b a v) same own =
-      by_sets_same J n (at k) (at' k) (set_rule (quantifier all) (known at b) (known at a) v)
-      (set_rule (quantifier all) (known at' b) (known at' a) v) refl refl
-      (own (record { all = all; start = b; grow = a; value = v; is = refl }))
-      (known_reads b (same_left (asks b) (asks a) same)) (known_reads a (same_right (asks b) (asks a) same))
+  column_reads (Sets g) same own =
+      by_sets_same J n (at k) (at' k) (set_rule (quantifier g.all) (known at g.start) (known at g.grow) g.value)
+      (set_rule (quantifier g.all) (known at' g.start) (known at' g.grow) g.value) refl refl
+      (own (record { growth = g; is = refl }))
+      (known_reads g.start (same_left (asks g.start) (asks g.grow) same)) (known_reads g.grow (same_right (asks g.start) (asks g.grow) same))
 
   -- so where the cells of smaller subformulas are the same
   abbrev pub Below : Type 0
@@ -128,6 +128,7 @@ module _ (J : Job) (n k : ℕ) (at' at : ℕ → ℕ → ℕ) where
 -- The column of a rule that goes by sets.
 pub sets_column :
     (J : Job) (n : ℕ) (at : ℕ → ℕ → ℕ) (k : ℕ) (r : Rule) (sets : IsSets r)
-    → column J n at k r ≡ by_sets J n (at k) (set_rule (quantifier sets.all) (known at sets.start) (known at sets.grow) sets.value)
+    → column J n at k r
+    ≡ by_sets J n (at k) (set_rule (quantifier sets.growth.all) (known at sets.growth.start) (known at sets.growth.grow) sets.growth.value)
 unfolding column
 sets_column J n at k r sets = ap (column J n at k) sets.is

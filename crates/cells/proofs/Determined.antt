@@ -81,7 +81,7 @@ module _ (J : Job) (n : ℕ) (at : ℕ → ℕ → ℕ) (k s : ℕ) (l : s < siz
   local_filled (And a b) o p filled =
       rw (tab_at (λ u. both (at a u) (at b u)) (size J) s 2 l) (both_filled (at a s) (at b s) (filled a o.0) (filled b o.1))
   local_filled (Next all a) o p filled = absurd (true≢false p)
-  local_filled (Sets all b a v) o p filled = absurd (true≢false p)
+  local_filled (Sets g) o p filled = absurd (true≢false p)
 
   -- an owned state without a value, where the operands' cells are filled at the state and its successors
   pub empty_sets :
@@ -99,4 +99,4 @@ module _ (J : Job) (n : ℕ) (at : ℕ → ℕ → ℕ) (k s : ℕ) (l : s < siz
   empty_sets (Next all a) o i filled later e =
       let q = quantifier all in
       absurd (omega (arith, tab_at (next J n q (at a)) (size J) s 2 l, next_filled J n q (at a) s i (λ u. later a u o)))
-  empty_sets (Sets all b a v) o i filled later e = record { all = all; start = b; grow = a; value = v; is = refl }
+  empty_sets (Sets g) o i filled later e = record { growth = g; is = refl }

@@ -121,10 +121,10 @@ module _
     sets_again : (sets : IsSets r) (s : ℕ) → s < size J → at' k s ≡ 2 → get_or (column J n at' k r) s 2 ≡ 2
     sets_again sets s l h =
         let (i, j, small) = sets_range k r sets range in
-        let q = quantifier sets.all in
-        let b = sets.start in
-        let a = sets.grow in
-        let v = sets.value in
+        let q = quantifier sets.growth.all in
+        let b = sets.growth.start in
+        let a = sets.growth.grow in
+        let v = sets.growth.value in
         rw (
           sets_column J n at' k r sets,
           by_sets_same J n (at' k) (at' k) (set_rule q (known at b) (known at a) v) (set_rule q (known at' b) (known at' a) v) refl refl

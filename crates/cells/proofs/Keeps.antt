@@ -244,9 +244,10 @@ module _
         let q = quantifier all in
         rw (tab_at (next J n q (at a)) (size J) s 2 l, tab_at (next J n q (at' a)) (size J) s 2 l)
         (next_keeps J job n q (at a) (at' a) (operand a o) s)
-    column_keeps (Sets all b a v) o reads reads' s l =
+    column_keeps (Sets g) o reads reads' s l =
         let condition : (c : Condition) → AsksSmaller k c → (u : ℕ) → u < size J → Keeps (known at c u) (known at' c u) =
         λ c i u m. known_keeps at at' k u (λ j. reads.low j u) (λ j h. operand j h u m) c i in
-        by_sets_keeps J n (quantifier all) v o.2 (meets T b) (meets T a) (at k) (known at b) (known at a) (at' k) (known at' b) (known at' a)
-        (reads_sets J T k at all b a v o reads) (reads_sets J T k at' all b a v o reads') (λ u m. reads'.low k u)
-        (λ u. kept k u (le_refl (suc k))) (condition b o.0) (condition a o.1) s l
+        by_sets_keeps J n (quantifier g.all) g.value o.2 (meets T g.start) (meets T g.grow) (at k) (known at g.start) (known at g.grow) (at' k) (known at' g.start)
+        (known at' g.grow)
+        (reads_sets J T k at g o reads) (reads_sets J T k at' g o reads') (λ u m. reads'.low k u)
+        (λ u. kept k u (le_refl (suc k))) (condition g.start o.0) (condition g.grow o.1) s l

@@ -2,15 +2,13 @@
 -- where these are as they were; after the step of a node all its columns are idle. Assumes nothing.
 use Prim.Native.Nat.{ℕ, zero, suc, ◌<◌}
 use mathlib.Core.Path.{◌≡◌, sym, ◌∙◌, ap}
-use mathlib.Core.Bool.{false}
+use mathlib.Core.Bool.{Bool, true, false}
 use mathlib.Core.List.{List}
 use native.Mathlib.Nat.{le_refl}
 use native.Mathlib.Omega.{arith}
 use lib.ListN.{length, get_or}
-use lib.Dec.{eqb}
 use Rattle.law.specs.Lists.{some}
-use borrow.Author.Tests.{eqb-true}
-use Rattle.law.proofs.Bool.{split, clash, not_is_true}
+use Rattle.law.proofs.Bool.{split, clash}
 use Rattle.law.proofs.Lists.{some_intro, some_none}
 use Rattle.job.specs.Job.{Job, subformula_count}
 use Rattle.job.specs.Rule.{rule_at, InRange}
@@ -19,7 +17,7 @@ use Rattle.job.specs.declared.rule.Rule.{Rule}
 use Rattle.job.proofs.RuleLaws.{operand_smaller}
 use Rattle.cells.specs.Table.{Table, cell}
 use Rattle.cells.specs.Step.{step_column, step_table}
-use Rattle.cells.specs.Rest.{column_byte, is_stale, reads, bears, Rested, SameColumn, TellsChanges}
+use Rattle.cells.specs.Rest.{column_flag, is_stale, reads, bears, Rested, SameColumn, TellsChanges}
 use Rattle.cells.proofs.Columns.{column_reads}
 use Rattle.cells.proofs.Local.{column_of, read_lt}
 use Rattle.cells.proofs.Idle.{step_column_idle, idle_column, step_table_column}
@@ -51,32 +49,32 @@ module _ (J : Job) (job : IsJob J) (n : ℕ) where
 
   -- What nothing stale bears on reads no marked column.
   unmarked :
-      (stale : List ℕ) (k : ℕ) (r : Rule)
+      (stale : List Bool) (k : ℕ) (r : Rule)
       → bears stale n k r ≡ false
       → (i : ℕ)
       → i < length (reads k r)
-      → get_or stale (column_byte n (get_or (reads k r) i 0)) 0 ≡ 0
+      → get_or stale (column_flag n (get_or (reads k r) i 0)) false ≡ false
   unfolding bears is_stale
   unmarked stale k r none i h =
-      let mark = get_or stale (column_byte n (get_or (reads k r) i 0)) 0 in
-      split (eqb mark 0) (eqb-true mark 0)
-      (λ e. clash (some (is_stale stale n) (reads k r)) (some_intro (is_stale stale n) (reads k r) 0 i h (not_is_true (eqb mark 0) e)) none)
+      split (is_stale stale n (get_or (reads k r) i 0))
+      (λ e. clash (some (is_stale stale n) (reads k r)) (some_intro (is_stale stale n) (reads k r) 0 i h e) none)
+      (λ e. e)
 
-  no_mark : (stale : List ℕ) (k : ℕ) → get_or stale (column_byte n k) 0 ≡ 0 → is_stale stale n k ≡ false
+  no_mark : (stale : List Bool) (k : ℕ) → get_or stale (column_flag n k) false ≡ false → is_stale stale n k ≡ false
   unfolding is_stale
-  no_mark stale k e = simp e
+  no_mark stale k e = e
 
   -- A table that differs only in columns that are marked now.
   pub rested_kept :
-      (t u : Table) (stale stale' : List ℕ)
+      (t u : Table) (stale stale' : List Bool)
       → Rested J n stale t
-      → TellsChanges J n (column_byte n) stale t stale' u
+      → TellsChanges J n (column_flag n) stale t stale' u
       → Rested J n stale' u
   unfolding bears
   rested_kept t u stale stale' rested marks k l none =
       let r = rule_at J k in
       let read = get_or (reads k r) in
-      let kept : (i : ℕ) → i < length (reads k r) → (get_or stale (column_byte n (read i 0)) 0 ≡ 0) × SameColumn J n (read i 0) t u =
+      let kept : (i : ℕ) → i < length (reads k r) → (get_or stale (column_flag n (read i 0)) false ≡ false) × SameColumn J n (read i 0) t u =
       λ i h.
       let low = reads_within k r (job.operands k l) i h in
       marks (read i 0) (omega arith) (unmarked stale' k r none i h) in
@@ -84,13 +82,11 @@ module _ (J : Job) (job : IsJob J) (n : ℕ) where
       (rested k l (some_none (is_stale stale n) (reads k r) 0 (λ i h. no_mark stale (read i 0) (kept i h).0)))
 
   -- The step of the node leaves it so, whatever the marks.
-  pub stepped_rested : (t : Table) (stale : List ℕ) → Rested J n stale (step_table J n t)
+  pub stepped_rested : (t : Table) (stale : List Bool) → Rested J n stale (step_table J n t)
   stepped_rested t stale k l none = step_table_column J job.operands n k l t
 
   -- With all marks set nothing is said.
-  pub marked_rested : (t : Table) (stale : List ℕ) → ((k : ℕ) → k < subformula_count J → get_or stale (column_byte n k) 0 ≡ 1) → Rested J n stale t
+  pub marked_rested : (t : Table) (stale : List Bool) → ((k : ℕ) → k < subformula_count J → get_or stale (column_flag n k) false ≡ true) → Rested J n stale t
   unfolding reads
-  marked_rested t stale ones k l none =
-      let zero = unmarked stale k (rule_at J k) none 0 (omega arith) in
-      let one = ones k l in
-      absurd (omega arith)
+  marked_rested t stale all k l none =
+      clash (get_or stale (column_flag n k) false) (all k l) (unmarked stale k (rule_at J k) none 0 (omega arith))

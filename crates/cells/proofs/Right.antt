@@ -159,7 +159,7 @@ column_small J n at k (Atom j) o =
 column_small J n at k (Not a) o = tab_small _ (λ s. opposite_small (at a s)) (size J)
 column_small J n at k (And a b) o = tab_small _ (λ s. both_small (at a s) (at b s)) (size J)
 column_small J n at k (Next all a) o = tab_small _ (next_small J n (quantifier all) (at a)) (size J)
-column_small J n at k (Sets all b a v) o = by_sets_small J n (at k) (set_rule (quantifier all) (known at b) (known at a) v) (omega arith)
+column_small J n at k (Sets g) o = by_sets_small J n (at k) (set_rule (quantifier g.all) (known at g.start) (known at g.grow) g.value) (omega arith)
 
 -- So each call keeps the table right, an accept of a value that passes question 15.
 module _ (J : Job) where

@@ -7,6 +7,7 @@ use Rattle.job.specs.Job.{Job, size, atom}
 use Rattle.job.specs.Rule.{AsksSmaller, InRange, quantifier}
 use Rattle.job.specs.Written.{IsJob}
 use Rattle.job.specs.declared.rule.Condition.{Condition}
+use Rattle.job.specs.declared.rule.Growth.{Growth}
 use Rattle.job.specs.declared.rule.Rule.{Rule}
 use Rattle.job.specs.declared.rule.Rule.TheVariants.{Atom, Not, And, Next, Sets}
 use Rattle.ctl.specs.Labelling.{reached, meets, labelled}
@@ -24,18 +25,18 @@ pub record ReadsTruth (J : Job) (T : ℕ → ℕ → Bool) (k : ℕ) (r : Rule) 
 
 module _ (J : Job) (T : ℕ → ℕ → Bool) (k : ℕ) (at : ℕ → ℕ → ℕ) where
   pub reads_sets :
-      (all : Bool) (b a : Condition) (v : ℕ)
-      → InRange k (Sets all b a v)
-      → ReadsTruth J T k (Sets all b a v) at
-      → Telling J (at k) (set_rule (quantifier all) (known at b) (known at a) v) (meets T b) (meets T a)
+      (g : Growth)
+      → InRange k (Sets g)
+      → ReadsTruth J T k (Sets g) at
+      → Telling J (at k) (set_rule (quantifier g.all) (known at g.start) (known at g.grow) g.value) (meets T g.start) (meets T g.grow)
   unfolding InRange labelled
-  reads_sets all b a v (lb, la, small) reads =
+  reads_sets g (lb, la, small) reads =
       let tells : (c : Condition) → AsksSmaller k c → (s : ℕ) → s < size J → Tells 1 (known at c s) (meets T c s) =
       λ c o s l. known_tells at T k s (λ j. reads.low j s) (λ j h. reads.operands j s h l) c o in
       record {
-        owns = λ s l. valued_tells v (at k s) (reached J.structure (quantifier all) (meets T b) (meets T a) s) small (reads.own s l);
-        starts = tells b lb;
-        grows = tells a la;
+        owns = λ s l. valued_tells g.value (at k s) (reached J.structure (quantifier g.all) (meets T g.start) (meets T g.grow) s) small (reads.own s l);
+        starts = tells g.start lb;
+        grows = tells g.grow la;
       }
 
   module _ (job : IsJob J) (n : ℕ) where
@@ -58,7 +59,7 @@ module _ (J : Job) (T : ℕ → ℕ → Bool) (k : ℕ) (at : ℕ → ℕ → �
     column_tells (Next all a) o reads s l =
         rw (tab_at (next J n (quantifier all) (at a)) (size J) s 2 l)
         (next_tells J job n (quantifier all) (at a) (T a) (λ u. reads.operands a u o) s)
-    column_tells (Sets all b a v) o reads s l =
-        let R = set_rule (quantifier all) (known at b) (known at a) v in
-        tells_valued v (get_or (by_sets J n (at k) R) s 2) (reached_by J R (meets T b) (meets T a) s) o.2
-        (by_sets_tells J n (at k) R (meets T b) (meets T a) (reads_sets all b a v o reads) o.2 s l)
+    column_tells (Sets g) o reads s l =
+        let R = set_rule (quantifier g.all) (known at g.start) (known at g.grow) g.value in
+        tells_valued g.value (get_or (by_sets J n (at k) R) s 2) (reached_by J R (meets T g.start) (meets T g.grow) s) o.2
+        (by_sets_tells J n (at k) R (meets T g.start) (meets T g.grow) (reads_sets g o reads) o.2 s l)

@@ -1,15 +1,14 @@
 -- Marks stay right: from one table to the next, through copying and closing. Assumes nothing.
 use Prim.Native.Nat.{ℕ, ◌+◌, ◌<◌}
 use mathlib.Core.Path.{◌≡◌, refl, sym, ◌∙◌, ap}
-use mathlib.Core.Bool.{◌&&◌}
+use mathlib.Core.Bool.{Bool, true, false, ◌&&◌}
 use mathlib.Core.List.{List}
 use native.Mathlib.Nat.{not-suc-le-zero}
 use native.Mathlib.Omega.{arith}
 use borrow.Author.Tests.{eq-eqb, ne_eqb}
-use lib.ListN.{length, get_or, set, replicate, length-set, length-replicate, get_or-replicate}
-use lib.Seq.{get_or-set_same, get_or-set_other}
+use lib.ListN.{get_or, replicate, get_or-replicate}
 use lib.Dec.{eqb}
-use Rattle.law.proofs.Bool.{cond_true, cond_false, and_intro}
+use Rattle.law.proofs.Bool.{clash, cond_true, cond_false, and_intro}
 use Rattle.law.proofs.Bounded.{by_equal}
 use Rattle.job.specs.Job.{Job, size, subformula_count, owner}
 use Rattle.job.specs.Rule.{rule_at, closed_value}
@@ -19,7 +18,7 @@ use Rattle.cells.specs.Fragment.{border}
 use Rattle.cells.specs.Table.{Table, cell, owner_cell}
 use Rattle.cells.specs.Step.{step_table}
 use Rattle.cells.specs.Close.{is_temporal, copy_table, smallest_open, close_table}
-use Rattle.cells.specs.Rest.{column_byte, Copied, Tracked, SameColumn, TellsChanges, Mark, BytesAre}
+use Rattle.cells.specs.Rest.{column_flag, Copied, Tracked, SameColumn, TellsChanges, FlagIs, Mark, FlagsAre}
 use Rattle.cells.proofs.Fill.{fill_cell_new, fill_cell_left}
 use Rattle.cells.proofs.Grown.{grown_cell_empty, copy_table_grown, close_table_grown}
 use Rattle.cells.proofs.Local.{step_table_node}
@@ -27,64 +26,56 @@ use Rattle.cells.proofs.Rest.{rested_kept, stepped_rested, marked_rested}
 use Rattle.cells.proofs.FragmentLaws.{border_inside, owner_no_border}
 
 -- One mark.
-module _ (t : Table) (i : ℕ) (before : List ℕ) where
+module _ (t : Table) (i : ℕ) (before : List Bool) where
   pub mark_none : (u : Table) → u ≡ t → Mark t u i before before
-  mark_none u same = record { long = refl; rest = λ j apart. refl; here = λ e. (e, same) }
+  mark_none u same = record { rest = λ j apart. refl; here = λ e. (e, same) }
 
-  pub mark_set : (u : Table) → i < length before → Mark t u i before (set before i 1)
-  mark_set u l =
-      record {
-        long = length-set before i 1;
-        rest = λ j apart. get_or-set_other before i j 1 0 apart;
-        here = λ e. let one = get_or-set_same before i 1 0 l in absurd (omega arith);
-      }
+  pub mark_set : (u : Table) (after : List Bool) → FlagIs i true before after → Mark t u i before after
+  mark_set u after flag =
+      record { rest = flag.rest; here = λ e. clash (get_or after i false) flag.written e }
 
--- Bytes written one after another.
-module _ (at : ℕ → ℕ) (v : ℕ) (before : List ℕ) where
-  pub bytes_none : BytesAre at v 0 before before
-  bytes_none = record { long = refl; written = λ j l. absurd (not-suc-le-zero l); rest = λ b apart. refl }
+-- Flags written one after another.
+module _ (at : ℕ → ℕ) (v : Bool) (before : List Bool) where
+  pub flags_none : FlagsAre at v 0 before before
+  flags_none = record { written = λ j l. absurd (not-suc-le-zero l); rest = λ b apart. refl }
 
-  pub bytes_more :
-      (i : ℕ) (after : List ℕ)
-      → at i < length before
+  pub flags_more :
+      (i : ℕ) (after later : List Bool)
       → ((j : ℕ) → at j ≡ at i → j ≡ i)
-      → BytesAre at v i before after
-      → BytesAre at v (i + 1) before (set after (at i) v)
-  bytes_more i after room apart so_far =
+      → FlagsAre at v i before after
+      → FlagIs (at i) v after later
+      → FlagsAre at v (i + 1) before later
+  flags_more i after later apart so_far flag =
       record {
-        long = length-set after (at i) v ∙ so_far.long;
         written =
             λ j l.
-            by_equal j i
-            (λ e. rw e (get_or-set_same after (at i) v 0 (omega (arith, so_far.long))))
-            (λ f. get_or-set_other after (at i) (at j) v 0 (λ e. f (apart j e)) ∙ so_far.written j (omega arith));
-        rest =
-            λ b other.
-            get_or-set_other after (at i) b v 0 (other i (omega arith)) ∙ so_far.rest b (λ j l. other j (omega arith));
+            by_equal j i (λ e. rw e flag.written)
+            (λ f. flag.rest (at j) (λ e. f (apart j e)) ∙ so_far.written j (omega arith));
+        rest = λ b other. flag.rest b (other i (omega arith)) ∙ so_far.rest b (λ j l. other j (omega arith));
       }
 
 -- Marks of the columns of a node, one change after another.
 module _ (J : Job) (n : ℕ) (at : ℕ → ℕ) where
-  pub marks_none : (t : Table) (marks : List ℕ) → TellsChanges J n at marks t marks t
+  pub marks_none : (t : Table) (marks : List Bool) → TellsChanges J n at marks t marks t
   marks_none t marks k l e = (e, λ s b. refl)
 
   pub marks_after :
-      (t u v : Table) (a b c : List ℕ) → TellsChanges J n at a t b u → TellsChanges J n at b u c v → TellsChanges J n at a t c v
+      (t u v : Table) (a b c : List Bool) → TellsChanges J n at a t b u → TellsChanges J n at b u c v → TellsChanges J n at a t c v
   marks_after t u v a b c first second k l e =
       let (later, same) = second k l e in
       let (before, kept) = first k l later in
       (before, λ s h. same s h ∙ kept s h)
 
   pub mark_marks :
-      (t u : Table) (i : ℕ) (before after : List ℕ)
+      (t u : Table) (i : ℕ) (before after : List Bool)
       → Mark t u i before after
       → ((k : ℕ) → k < subformula_count J → (at k ≡ i → ⊥) → SameColumn J n k t u)
       → TellsChanges J n at before t after u
   mark_marks t u i before after mark others k l e =
       by_equal (at k) i
       (λ here.
-      let (none, same) = mark.here (sym (ap (λ j. get_or after j 0) here) ∙ e) in
-      (ap (λ j. get_or before j 0) here ∙ none, λ s h. ap (λ x. cell J x n s k) same))
+      let (none, same) = mark.here (sym (ap (λ j. get_or after j false) here) ∙ e) in
+      (ap (λ j. get_or before j false) here ∙ none, λ s h. ap (λ x. cell J x n s k) same))
       (λ apart. (sym (mark.rest (at k) apart) ∙ e, others k l apart))
 
 -- What there is to copy.
@@ -129,33 +120,27 @@ module _ (J : Job) (t : Table) where
 -- Right marks stay right.
 module _ (J : Job) (job : IsJob J) where
   -- in the beginning, with every mark set
-  pub all_tracked : (t : Table) → Tracked J (replicate 256 1) (replicate 32 1) t
+  pub all_tracked : (t : Table) → Tracked J (replicate 256 true) (replicate 32 true) t
   all_tracked t =
       record {
-        stale_long = length-replicate {A = ℕ} 256 1;
-        news_long = length-replicate {A = ℕ} 32 1;
         rested =
             λ n node.
-            marked_rested J job n t (replicate 256 1)
-            (λ k l. get_or-replicate {A = ℕ} 256 (column_byte n k) 1 0 (omega (arith, job.nodes.below, job.subformulas.below)));
+            marked_rested J job n t (replicate 256 true)
+            (λ k l. get_or-replicate {A = Bool} 256 (column_flag n k) true false (omega (arith, job.nodes.below, job.subformulas.below)));
         exchanged =
             λ k l none.
-            let one = get_or-replicate {A = ℕ} 32 k 1 0 (omega (arith, job.subformulas.below)) in
-            absurd (omega arith);
+            clash (get_or {A = Bool} (replicate 32 true) k false)
+            (get_or-replicate {A = Bool} 32 k true false (omega (arith, job.subformulas.below))) none;
       }
 
-  module _ (t : Table) (stale news : List ℕ) (tracked : Tracked J stale news t) where
+  module _ (t : Table) (stale news : List Bool) (tracked : Tracked J stale news t) where
     pub step_tracked :
-        (n : ℕ) (stale' news' : List ℕ)
-        → length stale' ≡ length stale
-        → ((m k : ℕ) → k < 32 → (m ≡ n → ⊥) → get_or stale' (column_byte m k) 0 ≡ get_or stale (column_byte m k) 0)
-        → length news' ≡ length news
+        (n : ℕ) (stale' news' : List Bool)
+        → ((m k : ℕ) → k < 32 → (m ≡ n → ⊥) → get_or stale' (column_flag m k) false ≡ get_or stale (column_flag m k) false)
         → TellsChanges J n (λ k. k) news t news' (step_table J n t)
         → Tracked J stale' news' (step_table J n t)
-    step_tracked n stale' news' stale_long rows news_long marks =
+    step_tracked n stale' news' rows marks =
         record {
-          stale_long = stale_long ∙ tracked.stale_long;
-          news_long = news_long ∙ tracked.news_long;
           rested =
               λ m node.
               by_equal m n
@@ -173,37 +158,31 @@ module _ (J : Job) (job : IsJob J) where
         }
 
     pub copy_tracked :
-        (stale' news' : List ℕ)
-        → length stale' ≡ length stale
-        → ((n : ℕ) → TellsChanges J n (column_byte n) stale t stale' (copy_table J t))
-        → length news' ≡ length news
+        (stale' news' : List Bool)
+        → ((n : ℕ) → TellsChanges J n (column_flag n) stale t stale' (copy_table J t))
         → Tracked J stale' news' (copy_table J t)
-    copy_tracked stale' news' stale_long marks news_long =
+    copy_tracked stale' news' marks =
         record {
-          stale_long = stale_long ∙ tracked.stale_long;
-          news_long = news_long ∙ tracked.news_long;
           rested = λ n node. rested_kept J job n t (copy_table J t) stale stale' (tracked.rested n node) (marks n);
           exchanged = λ k l none. copy_table_copied J job t k l;
         }
 
     pub close_tracked :
-        (stale' : List ℕ)
+        (stale' : List Bool)
         → smallest_open J t < subformula_count J
-        → BytesAre (λ n. column_byte n (smallest_open J t)) 1 J.nodes stale stale'
+        → FlagsAre (λ n. column_flag n (smallest_open J t)) true J.nodes stale stale'
         → Tracked J stale' news (close_table J t)
     close_tracked stale' some marked =
         let k = smallest_open J t in
         record {
-          stale_long = marked.long ∙ tracked.stale_long;
-          news_long = tracked.news_long;
           rested =
               λ n node.
               rested_kept J job n t (close_table J t) stale stale' (tracked.rested n node)
               (λ j l none.
               by_equal j k
-              (λ e. let one = marked.written n node in absurd (omega (arith, rw e at none)))
+              (λ e. clash (get_or stale' (column_flag n k) false) (marked.written n node) (rw e at none))
               (λ apart. (
-                sym (marked.rest (column_byte n j) (λ m h e. apart (omega (arith, job.subformulas.below)))) ∙ none,
+                sym (marked.rest (column_flag n j) (λ m h e. apart (omega (arith, job.subformulas.below)))) ∙ none,
                 close_table_other J t n j l apart,
               )));
           exchanged =

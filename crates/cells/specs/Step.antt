@@ -39,7 +39,7 @@ column J n at k (Atom j) = tab (λ s. cond (atom J.structure j s) 1 0) (size J)
 column J n at k (Not a) = tab (λ s. opposite (at a s)) (size J)
 column J n at k (And a b) = tab (λ s. both (at a s) (at b s)) (size J)
 column J n at k (Next all a) = tab (next J n (quantifier all) (at a)) (size J)
-column J n at k (Sets all start grow v) = by_sets J n (at k) (set_rule (quantifier all) (known at start) (known at grow) v)
+column J n at k (Sets g) = by_sets J n (at k) (set_rule (quantifier g.all) (known at g.start) (known at g.grow) g.value)
 
 -- The empty cells of node n and subformula k take their values.
 unfoldable pub step_column : Job → ℕ → ℕ → Table → Table

@@ -39,8 +39,8 @@ label_same M p q k same (Atom j) o = refl
 label_same M p q k same (Not a) o = ap (λ x s. not (x s)) (same a o)
 label_same M p q k same (And a b) o = ap₂ (λ x y s. x s && y s) (same a o.0) (same b o.1)
 label_same M p q k same (Next all a) o = ap (λ x s. over M (quantifier all) s x) (same a o)
-label_same M p q k same (Sets all b a v) o =
-    ap₂ (λ x y s. valued v (reached M (quantifier all) x y s)) (meets_same p q k same b o.0) (meets_same p q k same a o.1)
+label_same M p q k same (Sets g) o =
+    ap₂ (λ x y s. valued g.value (reached M (quantifier g.all) x y s)) (meets_same p q k same g.start o.0) (meets_same p q k same g.grow o.1)
 
 module _ (M : Structure) (f : List Subformula) (smaller : Smaller f) where
   -- Any two fuels above k label k alike, by induction on both: the operands' fuels are above the operands.

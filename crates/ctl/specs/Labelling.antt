@@ -34,7 +34,7 @@ labelled M sat (Atom j) s = atom M j s
 labelled M sat (Not a) s = not (sat a s)
 labelled M sat (And a b) s = sat a s && sat b s
 labelled M sat (Next all a) s = over M (quantifier all) s (sat a)
-labelled M sat (Sets all start grow v) s = valued v (reached M (quantifier all) (meets sat start) (meets sat grow) s)
+labelled M sat (Sets g) s = valued g.value (reached M (quantifier g.all) (meets sat g.start) (meets sat g.grow) s)
 
 unfoldable pub labelling : Structure → List Subformula → ℕ → ℕ → ℕ → Bool
 labelling M f zero k s = false

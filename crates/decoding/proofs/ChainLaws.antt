@@ -20,6 +20,7 @@ use Rattle.job.specs.Written.{IsJob, no_edge, edge_count}
 use Rattle.cells.specs.Fragment.{owns, in_fragment}
 use Rattle.cells.proofs.FragmentLaws.{owns_intro, owns_owner, inner_owned}
 use Rattle.image.specs.Image.{WORDS, OWNERS, SOURCES, TARGETS, LAST, NEXT, Denotes, word, by_node, edge_from, edge_to, leads, last_into, place_of}
+use Rattle.image.specs.declared.place.Place.TheVariants.{Outside, Border, Inner}
 use Rattle.decoding.specs.Laid.{Chains, chain_of}
 use Rattle.image.proofs.ImageLaws.{source_read, owner_read, target_read}
 use Rattle.image.proofs.Runs.{from_in, to_in}
@@ -162,14 +163,14 @@ module _ (J : Job) (job : IsJob J) (n s : ℕ) where
       (some_any (λ (e : Edge). owns J n e.from && eqb e.to s) J.structure.edges no_edge
       ∙ any_same (λ e. owns J n (edge_from J.structure e) && eqb (edge_to J.structure e) s) (leads J n s) (edge_count J) leads_owned)
 
-  pub place_own : s < size J → owner J s ≡ n → place_of J n s ≡ 2
+  pub place_own : s < size J → owner J s ≡ n → place_of J n s ≡ Inner
   unfolding place_of
   place_own l e = simp (inner_owned J job n s, owns_intro J n s l e)
 
   not_owned : (owner J s ≡ n → ⊥) → owns J n s ≡ false
   not_owned other = split (owns J n s) (λ t. absurd (other (owns_owner J n s t))) (λ f. f)
 
-  pub place_none : (owner J s ≡ n → ⊥) → last_into J n s (edge_count J) ≡ 0 → place_of J n s ≡ 0
+  pub place_none : (owner J s ≡ n → ⊥) → last_into J n s (edge_count J) ≡ 0 → place_of J n s ≡ Outside
   unfolding place_of
   place_none other e =
       simp (
@@ -179,7 +180,7 @@ module _ (J : Job) (job : IsJob J) (n s : ℕ) where
         not-true (any (leads J n s) (edge_count J)) (sym (last_none J n s (edge_count J)) ∙ eq-eqb _ 0 e),
       )
 
-  pub place_reached : (owner J s ≡ n → ⊥) → (last_into J n s (edge_count J) ≡ 0 → ⊥) → place_of J n s ≡ 1
+  pub place_reached : (owner J s ≡ n → ⊥) → (last_into J n s (edge_count J) ≡ 0 → ⊥) → place_of J n s ≡ Border
   unfolding place_of
   place_reached other e =
       simp (

@@ -14,7 +14,7 @@ use Rattle.job.specs.Formula as lines
 use Rattle.job.specs.Job.{Job, decode}
 use Rattle.job.specs.Written.{IsJob, no_edge}
 use Rattle.job.specs.declared.subformula.Subformula.TheVariants.{Atom}
-use Rattle.image.specs.Image.{WORDS, OWNERS, LABELS, SOURCES, TARGETS, KINDS, LEFTS, RIGHTS, FIRST, word, job_of, Denotes}
+use Rattle.image.specs.Image.{WORDS, OWNERS, LABELS, SOURCES, TARGETS, KINDS, LEFTS, RIGHTS, FIRST, word, words_job, Denotes}
 use Rattle.decoding.specs.Laid.{Laid}
 use Rattle.image.proofs.ImageLaws.{size_word, edges_word, subformulas_word}
 
@@ -37,10 +37,6 @@ module _ (before : List ℕ) (region : ℕ) (f : ℕ → ℕ) where
         below = λ i g. get_or-set_other m (region + n) i v 0 (λ q. omega arith) ∙ laid.below i g;
         above = λ i g. get_or-set_other m (region + n) i v 0 (λ q. omega arith) ∙ laid.above i (omega arith);
       })
-
-  -- where the loop ends
-  pub laid_done : (m : List ℕ) (n k : ℕ) → n ≡ k → Laid before m region n f → Laid before m region k f
-  laid_done m n k e laid = subst (λ i. Laid before m region i f) e laid
 
 -- The numbers of a job, wherever they are read from.
 pub record Numbers : Type 0 where
@@ -138,13 +134,13 @@ in_text t =
       rights = layout.right_field t;
     }
 
-pub text_job : (m : List ℕ) (t : Text) → SameNumbers (in_words m) (in_text t) → job_of m ≡ decode t
-unfolding job_of decode
+pub text_job : (m : List ℕ) (t : Text) → SameNumbers (in_words m) (in_text t) → words_job m ≡ decode t
+unfolding words_job decode
 text_job m t s = same_job (in_words m) (in_text t) s
 
 -- The same first words denote the same job.
-below_job : (m n : List ℕ) → IsJob (job_of m) → ((i : ℕ) → i < FIRST → get_or n i 0 ≡ get_or m i 0) → job_of n ≡ job_of m
-unfolding job_of
+below_job : (m n : List ℕ) → IsJob (words_job m) → ((i : ℕ) → i < FIRST → get_or n i 0 ≡ get_or m i 0) → words_job n ≡ words_job m
+unfolding words_job
 below_job m n job same =
     same_job (in_words n) (in_words m)
     (record {
@@ -175,5 +171,5 @@ pub denotes_kept :
 denotes_kept J m n d long same =
     record { long = long; is = below_job m n (subst IsJob (sym d.is) d.is_job) same ∙ d.is; is_job = d.is_job }
 
-pub denotes_own : (J : Job) (m : List ℕ) → Denotes J m → Denotes (job_of m) m
+pub denotes_own : (J : Job) (m : List ℕ) → Denotes J m → Denotes (words_job m) m
 denotes_own J m d = record { long = d.long; is = refl; is_job = subst IsJob (sym d.is) d.is_job }

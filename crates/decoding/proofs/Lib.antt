@@ -1,4 +1,5 @@
 pub mod LaidLaws
+pub mod RunLaws
 pub mod ChainLaws
 pub mod FragmentLaws
 pub mod TextLaws

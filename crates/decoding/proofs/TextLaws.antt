@@ -7,7 +7,7 @@ use Rattle.text.specs.Field.{Text}
 use Rattle.job.specs.Job.{decode}
 use Rattle.job.specs.Read.{read_told, read_answer}
 use Rattle.job.specs.declared.reading.Header.{Header}
-use Rattle.job.specs.declared.reading.Reading.TheVariants.{Accepted}
+use Rattle.std.proofs.Common.{Ok}
 use Rattle.job.proofs.Agrees.{passed_job}
 use Rattle.job.proofs.ReadLaws.{read_passed}
 use Rattle.image.specs.Image.{WORDS, Denotes}
@@ -16,7 +16,7 @@ use Rattle.decoding.specs.Laid.{Unlaid}
 use Rattle.decoding.proofs.LaidLaws.{text_job}
 
 module _ (t : Text) (before m : List ℕ) (laid : NumbersLaid t before m) where
-  pub job_laid : (h : Header) → read_told (Accepted h) ≡ read_answer t → Denotes (decode t) m
+  pub job_laid : (h : Header) → read_told (Ok h) ≡ read_answer t → Denotes (decode t) m
   job_laid h told =
       record {
         long = laid.long;

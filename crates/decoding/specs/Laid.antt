@@ -2,7 +2,7 @@
 use Rattle.std.specs.Prelude.{ℕ, ◌+◌, ◌*◌, ◌<◌, ◌≤◌, ◌≡◌, List, length, get_or}
 use Rattle.job.specs.Job.{Job, size, owner}
 use Rattle.job.specs.Written.{edge_count}
-use Rattle.image.specs.Image.{WORDS, FIRST, LAST, NEXT, PLACES, SIZES, MEMBERS, Denotes, word, by_node, edge_from, edge_to, last_into, place_of, fragment_size, rank, fragment_state}
+use Rattle.image.specs.Image.{WORDS, FIRST, LAST, NEXT, PLACES, SIZES, MEMBERS, Denotes, word, by_node, edge_from, edge_to, last_into, place_of, place_number, fragment_size, rank, fragment_state}
 
 -- The first n words of a region hold f 0, f 1, .. now; every other word is as before.
 pub record Laid (before m : List ℕ) (region n : ℕ) (f : ℕ → ℕ) : Type 0 where
@@ -38,7 +38,7 @@ pub record Listed (J : Job) (n s k : ℕ) (before m : List ℕ) : Type 0 where
   pub below : (i : ℕ) → i < PLACES + n * 256 → get_or m i 0 ≡ get_or before i 0
   pub sizes_below : (i : ℕ) → i < n → word m SIZES i ≡ word before SIZES i
   pub members_below : (i : ℕ) → i < n * 256 → word m MEMBERS i ≡ word before MEMBERS i
-  pub place_at : (u : ℕ) → u < s → word m PLACES (by_node n u) ≡ place_of J n u
+  pub place_at : (u : ℕ) → u < s → word m PLACES (by_node n u) ≡ place_number (place_of J n u)
   pub member_at : (i : ℕ) → i < k → word m MEMBERS (by_node n i) ≡ fragment_state J n i
 
 -- State s added to a list of k states, which has r of them then: whatever the array was before, what was listed still is, and so is s.
@@ -55,6 +55,6 @@ pub record Fragment (J : Job) (n : ℕ) (before m : List ℕ) : Type 0 where
 pub record Fragments (J : Job) (nodes : ℕ) (before m : List ℕ) : Type 0 where
   pub long : length m ≡ WORDS
   pub below : (i : ℕ) → i < PLACES → get_or m i 0 ≡ get_or before i 0
-  pub place_at : (n s : ℕ) → n < nodes → s < size J → word m PLACES (by_node n s) ≡ place_of J n s
+  pub place_at : (n s : ℕ) → n < nodes → s < size J → word m PLACES (by_node n s) ≡ place_number (place_of J n s)
   pub size_at : (n : ℕ) → n < nodes → word m SIZES n ≡ fragment_size J n
   pub member_at : (n i : ℕ) → n < nodes → i < fragment_size J n → word m MEMBERS (by_node n i) ≡ fragment_state J n i

@@ -1,23 +1,17 @@
 // From any bytes to the image of a job.
-ghost use Rattle.std.specs.Prelude.{◌≡◌, replicate};
 ghost use Rattle.decoding.specs.ImageRead.{ImageRead};
 
 use crate::decode::lay_derived;
-use image::image::Image;
-use job::reading::{Reading, Refusal};
-use layout::refusal::refused_by;
+use image::image::{Image, WORDS};
+use job::refusal::Refusal;
 use reader::read::read_numbers;
 
-// Questions 1 to 8, and where they are answered yes the image of the text's job, laid in an array of zeros. The refusal has number 0 where
-// there is none.
-pub fn read_image(text: &[u8], m: &mut Image) -> Refusal
-    requires { m.old ≡ replicate 13165 0 }
-    ensures { ImageRead text.now m.new result }
+// Questions 1 to 8, and where they are answered yes the image of the text's job, laid in an array of zeros.
+pub fn read_image(text: &[u8]) -> Result<Image, Refusal>
+    ensures { ImageRead text.now result }
 {
-    let reading = read_numbers(text, m);
-    let Reading::Accepted(_) = reading else {
-        return refused_by(reading);
-    };
-    lay_derived(m);
-    Refusal { number: 0, line: 0 }
+    let mut words = [0u16; WORDS];
+    read_numbers(text, &mut words)?;
+    lay_derived(&mut words);
+    Ok(Image::from_words(words))
 }

@@ -1,7 +1,7 @@
 -- What the pass keeps after so many edge lines of a text, and that questions 6 and 7 are answered from it as document 01 has them. Assumes nothing.
 use Prim.Native.Nat.{ℕ, zero, suc, ◌+◌, ◌<◌, ◌≤◌}
 use mathlib.Core.Path.{◌≡◌, refl, sym, ◌∙◌, ap}
-use mathlib.Core.Bool.{Bool, not, ◌&&◌, ◌||◌}
+use mathlib.Core.Bool.{Bool, true, false, not, ◌&&◌, ◌||◌}
 use native.Mathlib.Numerals.{add-one, sub-one}
 use native.Mathlib.Omega.{arith}
 use borrow.Author.Tests.{eq-eqb, ne_eqb}
@@ -52,24 +52,24 @@ module _ (t : Text) where
   -- What is kept for question 7.
   pub kept_marks : (e : ℕ) → length (kept_after t e).starts ≡ 256
   unfolding kept_after start after
-  kept_marks zero = length-replicate {A = ℕ} 256 0
-  kept_marks (suc e) = length-set (kept_after t e).starts (source_field t e) 1 ∙ kept_marks e
+  kept_marks zero = length-replicate {A = Bool} 256 false
+  kept_marks (suc e) = length-set (kept_after t e).starts (source_field t e) true ∙ kept_marks e
 
   abbrev starts_from : ℕ → ℕ → Bool
   starts_from s d = eqb (source_field t d) s
 
-  kept_unmarked : (e s : ℕ) → s < 256 → eqb (get_or (kept_after t e).starts s 0) 0 ≡ not (any (starts_from s) e)
+  kept_unmarked : (e s : ℕ) → s < 256 → not (get_or (kept_after t e).starts s false) ≡ not (any (starts_from s) e)
   unfolding kept_after start after any first
-  kept_unmarked zero s l = simp (get_or-replicate {A = ℕ} 256 s 0 0 l)
+  kept_unmarked zero s l = simp (get_or-replicate {A = Bool} 256 s false false l)
   kept_unmarked (suc e) s l =
       rw (any_suc (starts_from s) e)
       (by_equal s (source_field t e)
       (λ q.
-      let marked : get_or (set (kept_after t e).starts (source_field t e) 1) s 0 ≡ 1 =
-      rw q (get_or-set_same (kept_after t e).starts (source_field t e) 1 0 (omega (arith, kept_marks e))) in
+      let marked : get_or (set (kept_after t e).starts (source_field t e) true) s false ≡ true =
+      rw q (get_or-set_same (kept_after t e).starts (source_field t e) true false (omega (arith, kept_marks e))) in
       simp (marked, eq-eqb (source_field t e) s (sym q), or_true))
       (λ q.
-      rw (get_or-set_other (kept_after t e).starts (source_field t e) s 1 0 q, ne_eqb (source_field t e) s (λ z. q (sym z)), or_false (any (starts_from s) e))
+      rw (get_or-set_other (kept_after t e).starts (source_field t e) s true false q, ne_eqb (source_field t e) s (λ z. q (sym z)), or_false (any (starts_from s) e))
       (kept_unmarked e s l)))
 
   -- Both answers.

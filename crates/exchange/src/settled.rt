@@ -1,11 +1,12 @@
 // Whether a table is settled: the steps and the copying of a round would fill nothing.
 ghost use Rattle.std.specs.Prelude.{◌≡◌, ◌≤◌, length};
 ghost use Rattle.cells.specs.Close.{settled as settled_of};
-ghost use Rattle.image.specs.Image.{job_of};
+ghost use Rattle.image.specs.Denoted.{job_of};
 ghost use Rattle.table.specs.Lent.{Ready};
 
 use crate::exchange;
 use image::image::Image;
+use pending::Pending;
 
 // Whether they fill nothing in a copy of the table, which itself stays.
 fn is_idle(m: &Image, table: &[u8], copy: &mut [u8]) -> bool
@@ -15,9 +16,7 @@ fn is_idle(m: &Image, table: &[u8], copy: &mut [u8]) -> bool
 {
     let part = &mut copy[0..table.len()];
     part.copy_from_slice(table);
-    let mut stale = [1u8; 256];
-    let mut news = [1u8; 32];
-    exchange(m, part, &mut stale, &mut news) == 0
+    exchange(m, part, &mut Pending::all()) == 0
 }
 
 pub fn settled(m: &Image, table: &[u8]) -> bool

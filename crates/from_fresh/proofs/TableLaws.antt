@@ -10,8 +10,9 @@ use Rattle.job.specs.Job.{decode}
 use Rattle.job.specs.Answer.{accepted}
 use Rattle.job.specs.Read.{read_answer, read_told, head_answer}
 use Rattle.job.specs.declared.reading.Header.{Header}
-use Rattle.job.specs.declared.reading.Reading.TheVariants.{Accepted, Refused}
-use Rattle.job.specs.declared.reading.Refusal.{Refusal}
+use Rattle.job.specs.declared.refusal.Refusal.{Refusal}
+use Rattle.job.specs.Refused.{number_of, line_of_refusal}
+use Rattle.std.proofs.Common.{Ok, Err}
 use Rattle.job.proofs.QuestionLaws.{refused_not_accepted, by_refusal, afterwards_none, afterwards_some}
 use Rattle.job.proofs.LayoutLaws.{head_fits}
 use Rattle.job.proofs.ReadLaws.{read_head_refused, product_small, decode_length}
@@ -22,7 +23,7 @@ use Rattle.cells.proofs.Grown.{finish_grown}
 use Rattle.from_fresh.specs.LineOne.{LineOne}
 
 -- line 1 is accepted: its numbers are the job's
-module _ (x : Text) (h : Header) (told : read_told (Accepted h) ≡ head_answer x) where
+module _ (x : Text) (h : Header) (told : read_told (Ok h) ≡ head_answer x) where
   pub head_numbers : LineOne x h
   unfolding table_length
   head_numbers =
@@ -40,12 +41,12 @@ module _ (x : Text) (h : Header) (told : read_told (Accepted h) ≡ head_answer 
 -- line 1 is refused: the text is not accepted
 pub size_refused :
     (x : Text) (own : List ℕ) (why : Refusal)
-    → read_told (Refused why) ≡ head_answer x
+    → read_told (Err why) ≡ head_answer x
     → accepted own ≡ read_answer x
     → ⊥
 unfolding read_told
 size_refused x own why told read =
-    refused_not_accepted own why.number why.line 4 (read ∙ sym (read_head_refused x why.number why.line told))
+    refused_not_accepted own (number_of why) (line_of_refusal why) 4 (read ∙ sym (read_head_refused x (number_of why) (line_of_refusal why) told))
 
 -- the first cells of a fresh table are a fresh table
 take_fresh : (n m : ℕ) → n ≤ m → take {A = ℕ} n (replicate m 2) ≡ replicate n 2

@@ -5,39 +5,25 @@
 ghost use Rattle.std.specs.Prelude.{◌≡◌, ◌≤◌, length, replicate, take};
 ghost use Rattle.cells.specs.Calls.{Call, answer, after};
 ghost use Rattle.calls.specs.Told.{finish_told};
-ghost use Rattle.from_fresh.specs.LineOne.{LineOne};
 ghost use Rattle.from_fresh.specs.TableSize.{TableSize};
 
-use calls::finish::{Finished, finish};
-use job::reading::{Header, Reading};
+use calls::finish::finish;
+use job::refusal::Refusal;
 use layout::head::head;
+use rounds::finish::Outcome;
 
-// Line 1's numbers, zeros where it is refused. Finish reads it again, with the rest.
-pub fn line_one(text: &[u8]) -> Header
-    ensures { LineOne text.now result }
-{
-    let reading = head(text);
-    let Reading::Accepted(h) = reading else {
-        return Header {
-            states: 0,
-            edges: 0,
-            subformulas: 0,
-            nodes: 0,
-        };
-    };
-    h
-}
-
-// How many cells the table for a text has, if the text is accepted.
+// How many cells the table for a text has, if the text is accepted. Line 1 tells; finish reads it again, with the rest.
 pub fn table_size(text: &[u8]) -> usize
     ensures { TableSize text.now result }
 {
-    let h = line_one(text);
-    h.nodes * h.states * h.subformulas
+    match head(text) {
+        Ok(h) => h.nodes * h.states * h.subformulas,
+        Err(_) => 0,
+    }
 }
 
 // Finish on the first cells.
-pub fn finish_fresh(text: &[u8], cells: &mut [u8], size: usize) -> Finished
+pub fn finish_fresh(text: &[u8], cells: &mut [u8], size: usize) -> Result<Outcome, Refusal>
     requires size_in_bounds { size ≤ length cells.old }
     requires cells_value { cells.old ≡ replicate 65536 2 }
     ensures told { finish_told result ≡ answer Call.finish text.now (replicate size 2) }

@@ -2,3 +2,4 @@ pub mod Ranks
 pub mod Places
 pub mod Runs
 pub mod ImageLaws
+pub mod Made

@@ -103,14 +103,10 @@ module _ (J : Job) (job : IsJob J) where
   unfolding first_edge edge_count
   first_few s = count_le (λ e. ltb (edge_from M e) s) (length M.edges)
 
-  -- a search for the run of s, in which no edge passed starts at s or above
+  -- an edge not behind the first of the run of s that starts at s or above is the first
   pub run_here : (s e : ℕ) → e ≤ first_edge M s → s ≤ edge_from M e → e ≡ first_edge M s
   run_here s e l g =
       by_order e (first_edge M s) (λ h. let stop : ⊥ = omega (arith, below_first s e h) in absurd stop) (λ h. omega arith)
-
-  pub run_later : (s e : ℕ) → e < edge_count J → edge_from M e < s → e + 1 ≤ first_edge M s
-  run_later s e l g =
-      by_order e (first_edge M s) (λ h. omega arith) (λ h. let stop : ⊥ = omega (arith, from_first s e l h) in absurd stop)
 
   pub first_up : (s : ℕ) → first_edge M s ≤ first_edge M (suc s)
   first_up s =

@@ -1,13 +1,15 @@
--- The decoded job as one array of words: the numbers of line 1, then regions, each at a named offset. `job_of` is the job that such an array
--- denotes, `IsImage` says that it is well made: its first part denotes a job of document 01, and each region behind it holds what is derived
--- from that job. That decoding an accepted text gives such an array, of that text's job, is the contract of `read_image` in crate decoding. Assumes nothing.
-use Rattle.std.specs.Prelude.{ℕ, zero, suc, ◌+◌, ◌*◌, ◌<◌, ◌≤◌, ◌≡◌, Bool, cond, ◌&&◌, List, length, get_or, eqb, ltb}
+-- The decoded job as one array of words: the numbers of line 1, then regions, each at a named offset. `words_job` is the job that such an array
+-- denotes, `IsImage` says that it is well made: its first part denotes a job, and each region behind it holds what is derived from that job.
+-- That decoding an accepted text gives such an array, of that text's job, is the contract of `read_image` in crate decoding. Assumes nothing.
+use Rattle.std.specs.Prelude.{ℕ, zero, suc, ◌+◌, ◌*◌, ◌<◌, ◌≤◌, ◌≡◌, Bool, cond, ◌&&◌, List, length, get_or, eqb, ltb, Option, Some, None}
 use Rattle.law.specs.Bounded.{first, count}
 use Rattle.law.specs.Lists.{tab}
 use Rattle.job.specs.Job.{Job, Structure, size, owner}
 use Rattle.job.specs.Formula as lines
 use Rattle.job.specs.Written.{IsJob, no_edge, edge_count}
 use Rattle.cells.specs.Fragment.{in_fragment, inner}
+use Rattle.image.specs.declared.place.Place.{Place}
+use Rattle.image.specs.declared.place.Place.TheVariants.{Outside, Border, Inner}
 
 -- Where each region begins.
 abbrev pub OWNERS : ℕ
@@ -59,8 +61,8 @@ word m region i = get_or m (region + i) 0
 abbrev pub by_node : ℕ → ℕ → ℕ
 by_node n s = n * 256 + s
 
-unfoldable pub job_of : List ℕ → Job
-job_of m =
+unfoldable pub words_job : List ℕ → Job
+words_job m =
     record {
       structure =
           record {
@@ -76,7 +78,7 @@ job_of m =
 -- The first regions denote the job J, whatever stands behind them.
 pub record Denotes (J : Job) (m : List ℕ) : Type 0 where
   pub long : length m ≡ WORDS
-  pub is : job_of m ≡ J
+  pub is : words_job m ≡ J
   pub is_job : IsJob J
 
 -- The edge of that number.
@@ -99,9 +101,19 @@ unfoldable pub last_into : Job → ℕ → ℕ → ℕ → ℕ
 last_into J n u zero = 0
 last_into J n u (suc e) = cond (leads J n u e) (suc e) (last_into J n u e)
 
--- A state's place in a node's fragment: 2 for a state that is not border, 1 for a border state, 0 outside.
-unfoldable pub place_of : Job → ℕ → ℕ → ℕ
-place_of J n s = cond (inner J n s) 2 (cond (in_fragment J n s) 1 0)
+-- The edge that such a number tells.
+abbrev pub edge_told : ℕ → Option ℕ
+edge_told zero = None
+edge_told (suc e) = Some e
+
+-- A state's place in a node's fragment, and the number by which the array holds it.
+unfoldable pub place_of : Job → ℕ → ℕ → Place
+place_of J n s = cond (inner J n s) Inner (cond (in_fragment J n s) Border Outside)
+
+abbrev pub place_number : Place → ℕ
+place_number Outside = 0
+place_number Border = 1
+place_number Inner = 2
 
 -- The states of a node's fragment, ascending: how many, how many below a state, and the one of a rank.
 unfoldable pub fragment_size : Job → ℕ → ℕ
@@ -115,19 +127,19 @@ fragment_state J n i = first (λ s. in_fragment J n s && eqb (rank J n s) i) (si
 
 pub record IsImage (m : List ℕ) : Type 0 where
   pub long : length m ≡ WORDS
-  pub is_job : IsJob (job_of m)
+  pub is_job : IsJob (words_job m)
   -- by state: its first edge; one more entry closes the last state's run
-  pub first_at : (s : ℕ) → s ≤ size (job_of m) → word m FIRST s ≡ first_edge (job_of m).structure s
+  pub first_at : (s : ℕ) → s ≤ size (words_job m) → word m FIRST s ≡ first_edge (words_job m).structure s
   -- by node and state: the last of the node's edges into it; by edge: the one before it of the same node into the same state
   pub last_at :
-      (n s : ℕ) → n < 8 → s < size (job_of m) → word m LAST (by_node n s) ≡ last_into (job_of m) n s (edge_count (job_of m))
+      (n s : ℕ) → n < 8 → s < size (words_job m) → word m LAST (by_node n s) ≡ last_into (words_job m) n s (edge_count (words_job m))
   pub next_at :
       (e : ℕ)
-      → e < edge_count (job_of m)
+      → e < edge_count (words_job m)
       → word m NEXT e
-      ≡ last_into (job_of m) (owner (job_of m) (edge_from (job_of m).structure e)) (edge_to (job_of m).structure e) e
-  pub place_at : (n s : ℕ) → n < 8 → s < size (job_of m) → word m PLACES (by_node n s) ≡ place_of (job_of m) n s
+      ≡ last_into (words_job m) (owner (words_job m) (edge_from (words_job m).structure e)) (edge_to (words_job m).structure e) e
+  pub place_at : (n s : ℕ) → n < 8 → s < size (words_job m) → word m PLACES (by_node n s) ≡ place_number (place_of (words_job m) n s)
   -- by node: the states of its fragment
-  pub size_at : (n : ℕ) → n < 8 → word m SIZES n ≡ fragment_size (job_of m) n
+  pub size_at : (n : ℕ) → n < 8 → word m SIZES n ≡ fragment_size (words_job m) n
   pub member_at :
-      (n i : ℕ) → n < 8 → i < fragment_size (job_of m) n → word m MEMBERS (by_node n i) ≡ fragment_state (job_of m) n i
+      (n i : ℕ) → n < 8 → i < fragment_size (words_job m) n → word m MEMBERS (by_node n i) ≡ fragment_state (words_job m) n i

@@ -1,13 +1,24 @@
-// What an image says of its job: each accessor is one load.
-ghost use Rattle.std.specs.Prelude.{◌≡◌, ◌+◌, ◌<◌, ◌≤◌, length, get_or};
+// A decoded job: its numbers and what is derived from them, in one array of words. Each accessor is one load.
+ghost use Rattle.std.specs.Prelude.{◌≡◌, ◌+◌, ◌%◌, ◌<◌, ◌≤◌, get_or, set, IfSome};
 ghost use Rattle.job.specs.Job.{size, subformula_count, owner as owner_of, subformula as subformula_of};
 ghost use Rattle.job.specs.Written.{edge_count, label as label_of, Operands};
-ghost use Rattle.image.specs.Image.{IsImage, WORDS, job_of, edge_from, edge_to, first_edge, last_into, place_of, fragment_size, fragment_state};
+ghost use Rattle.image.specs.Image.{IsImage, words_job, edge_from, edge_to, first_edge, last_into, edge_told, place_of, fragment_size, fragment_state};
 
-use job::subformula::{Parsed, Subformula, parse};
+use crate::place::Place;
+use job::subformula::{Subformula, parse};
 
-// 0 states, 1 edges, 2 subformulas, 3 nodes, and then the regions.
-pub type Image = [u16; 13165];
+// The numbers of line 1, and then the regions.
+pub type Words = [u16; WORDS];
+
+pub const WORDS: usize = 13165;
+
+pub const STATES: usize = 0;
+
+pub const EDGES: usize = 1;
+
+pub const SUBFORMULAS: usize = 2;
+
+pub const NODES: usize = 3;
 
 pub const OWNERS: usize = 4;
 
@@ -28,149 +39,157 @@ pub const FIRST: usize = 4708;
 pub const LAST: usize = 4965;
 // by edge: the edge before it of the same node into the same state, plus 1, or 0
 pub const NEXT: usize = 7013;
-// by node and state: 2 for a state that is not border, 1 for a border state, 0 outside the fragment
+// by node and state: the number of its place, 0 outside the node's fragment, 1 for a border state, 2 for another state of it
 pub const PLACES: usize = 9061;
 // by node: how many states its fragment has; by node and rank: these states, ascending
 pub const SIZES: usize = 11109;
 
 pub const MEMBERS: usize = 11117;
 
-// The range of a word is that of its type.
-fn wide(x: u16) -> usize
-    ensures { (result ≡ x) × (result < 65536) }
-{
-    x as usize
-}
-
 // A word, as an index.
-pub fn word(m: &Image, i: usize) -> usize
-    requires { (length m.now ≡ WORDS) × (i < WORDS) }
+pub fn word(m: &Words, i: usize) -> usize
+    requires { i < WORDS }
     ensures { (result ≡ get_or m.now i 0) × (result < 65536) }
 {
-    wide(m[i])
+    m[i] as usize
 }
 
-pub fn states(m: &Image) -> usize
-    requires { IsImage m.now }
-    ensures { (result ≡ size (job_of m.now)) × (1 ≤ result) × (result ≤ 256) }
+// A number as the word at i, modulo 65,536.
+pub fn set_word(m: &mut Words, i: usize, v: usize)
+    requires { i < WORDS }
+    ensures modulo { m.new ≡ set m.old i (v % 65536) }
+    ensures exact { v < 65536 → m.new ≡ set m.old i v }
 {
-    word(m, 0)
+    m[i] = (v % 65536) as u16;
 }
 
-pub fn subformulas(m: &Image) -> usize
-    requires { IsImage m.now }
-    ensures { (result ≡ subformula_count (job_of m.now)) × (1 ≤ result) × (result ≤ 32) }
-{
-    word(m, 2)
+// The array is well made. (Truncated, since that a state has an edge out has a proof for each such edge.)
+#[derive(Drop)]
+pub struct Image {
+    words: Words,
+    pub ghost well_made: { ∥ IsImage words ∥₁ },
 }
 
-pub fn nodes(m: &Image) -> usize
-    requires { IsImage m.now }
-    ensures { (result ≡ (job_of m.now).nodes) × (1 ≤ result) × (result ≤ 8) }
-{
-    word(m, 3)
-}
+impl Image {
+    ghost use Rattle.image.specs.Denoted.{job_of};
 
-pub fn owner(m: &Image, s: usize) -> usize
-    requires image { IsImage m.now }
-    requires s_bound { s < size (job_of m.now) }
-    ensures { (result ≡ owner_of (job_of m.now) s) × (result < (job_of m.now).nodes) × (result < 8) }
-{
-    word(m, OWNERS + s)
-}
+    // The image in an array whose regions are all laid.
+    pub fn from_words(words: Words) -> Self
+        requires { IsImage words }
+        ensures { job_of result ≡ words_job words }
+    {
+        Image { words }
+    }
 
-pub fn label(m: &Image, s: usize) -> u16
-    requires image { IsImage m.now }
-    requires s_bound { s < size (job_of m.now) }
-    ensures { result ≡ label_of (job_of m.now) s }
-{
-    m[LABELS + s]
-}
+    pub fn states(&self) -> usize
+        ensures { (result ≡ size (job_of self.now)) × (1 ≤ result) × (result ≤ 256) }
+    {
+        word(&self.words, STATES)
+    }
 
-pub fn source(m: &Image, e: usize) -> usize
-    requires image { IsImage m.now }
-    requires e_bound { e < edge_count (job_of m.now) }
-    ensures { (result ≡ edge_from (job_of m.now).structure e) × (result < size (job_of m.now)) × (result < 256) }
-{
-    word(m, SOURCES + e)
-}
+    pub fn subformulas(&self) -> usize
+        ensures { (result ≡ subformula_count (job_of self.now)) × (1 ≤ result) × (result ≤ 32) }
+    {
+        word(&self.words, SUBFORMULAS)
+    }
 
-pub fn target(m: &Image, e: usize) -> usize
-    requires image { IsImage m.now }
-    requires e_bound { e < edge_count (job_of m.now) }
-    ensures { (result ≡ edge_to (job_of m.now).structure e) × (result < size (job_of m.now)) × (result < 256) }
-{
-    word(m, TARGETS + e)
-}
+    pub fn nodes(&self) -> usize
+        ensures { (result ≡ (job_of self.now).nodes) × (1 ≤ result) × (result ≤ 8) }
+    {
+        word(&self.words, NODES)
+    }
 
-// The first edge out of state s; for the number of states, the end of the last state's edges.
-pub fn first_edge(m: &Image, s: usize) -> usize
-    requires image { IsImage m.now }
-    requires s_bound { s ≤ size (job_of m.now) }
-    ensures { (result ≡ first_edge (job_of m.now).structure s) × (result ≤ edge_count (job_of m.now)) × (result ≤ 2048) }
-{
-    word(m, FIRST + s)
-}
+    pub fn owner(&self, s: usize) -> usize
+        requires { s < size (job_of self.now) }
+        ensures { (result ≡ owner_of (job_of self.now) s) × (result < (job_of self.now).nodes) × (result < 8) }
+    {
+        word(&self.words, OWNERS + s)
+    }
 
-// The last of node n's edges into state s, plus 1, or 0.
-pub fn last_into(m: &Image, n: usize, s: usize) -> usize
-    requires image { IsImage m.now }
-    requires n_bound { (n < (job_of m.now).nodes) × (s < size (job_of m.now)) }
-    ensures { (result ≡ last_into (job_of m.now) n s (edge_count (job_of m.now))) × (result ≤ edge_count (job_of m.now)) }
-{
-    word(m, LAST + (n * 256 + s))
-}
+    pub fn label(&self, s: usize) -> u16
+        requires { s < size (job_of self.now) }
+        ensures { result ≡ label_of (job_of self.now) s }
+    {
+        self.words[LABELS + s]
+    }
 
-// The edge before e of the same node into the same state, plus 1, or 0.
-pub fn next_into(m: &Image, e: usize) -> usize
-    requires image { IsImage m.now }
-    requires e_bound { e < edge_count (job_of m.now) }
-    ensures { (result ≡ last_into (job_of m.now) (owner_of (job_of m.now) (edge_from (job_of m.now).structure e))
-        (edge_to (job_of m.now).structure e) e) × (result ≤ e) }
-{
-    word(m, NEXT + e)
-}
+    pub fn source(&self, e: usize) -> usize
+        requires { e < edge_count (job_of self.now) }
+        ensures { (result ≡ edge_from (job_of self.now).structure e) × (result < size (job_of self.now)) × (result < 256) }
+    {
+        word(&self.words, SOURCES + e)
+    }
 
-// A state's place in a node's fragment: 2 for a state that is not border, 1 for a border state, 0 outside.
-pub fn place(m: &Image, n: usize, s: usize) -> u16
-    requires image { IsImage m.now }
-    requires n_bound { (n < (job_of m.now).nodes) × (s < size (job_of m.now)) }
-    ensures { result ≡ place_of (job_of m.now) n s }
-{
-    m[PLACES + (n * 256 + s)]
-}
+    pub fn target(&self, e: usize) -> usize
+        requires { e < edge_count (job_of self.now) }
+        ensures { (result ≡ edge_to (job_of self.now).structure e) × (result < size (job_of self.now)) × (result < 256) }
+    {
+        word(&self.words, TARGETS + e)
+    }
 
-// How many states node n's fragment has, and the one of rank i.
-pub fn fragment_size(m: &Image, n: usize) -> usize
-    requires image { IsImage m.now }
-    requires n_bound { n < (job_of m.now).nodes }
-    ensures { (result ≡ fragment_size (job_of m.now) n) × (result ≤ 256) }
-{
-    word(m, SIZES + n)
-}
+    // The first edge out of state s; for the number of states, the end of the last state's edges.
+    pub fn first_edge(&self, s: usize) -> usize
+        requires { s ≤ size (job_of self.now) }
+        ensures { (result ≡ first_edge (job_of self.now).structure s) × (result ≤ edge_count (job_of self.now)) × (result ≤ 2048) }
+    {
+        word(&self.words, FIRST + s)
+    }
 
-pub fn fragment_state(m: &Image, n: usize, i: usize) -> usize
-    requires image { IsImage m.now }
-    requires n_bound { (n < (job_of m.now).nodes) × (i < fragment_size (job_of m.now) n) }
-    ensures { (result ≡ fragment_state (job_of m.now) n i) × (result < size (job_of m.now)) × (result < 256) }
-{
-    word(m, MEMBERS + (n * 256 + i))
-}
+    // The last of node n's edges into state s.
+    pub fn last_into(&self, n: usize, s: usize) -> Option<usize>
+        requires { (n < (job_of self.now).nodes) × (s < size (job_of self.now)) }
+        ensures is { result ≡ edge_told (last_into (job_of self.now) n s (edge_count (job_of self.now))) }
+        ensures upper_bound { IfSome result (λ e. e < edge_count (job_of self.now)) }
+    {
+        word(&self.words, LAST + (n * 256 + s)).checked_sub(1)
+    }
 
-// The k-th subformula. No line of a job is malformed.
-pub fn subformula(m: &Image, k: usize) -> Subformula
-    requires image { IsImage m.now }
-    requires k_bound { k < subformula_count (job_of m.now) }
-    ensures { (result ≡ subformula_of (job_of m.now).formula k) × Operands k result }
-{
-    let line = parse(
-        k,
-        word(m, KINDS + k),
-        word(m, LEFTS + k),
-        word(m, RIGHTS + k),
-    );
-    match line {
-        Parsed::Formula(f) => f,
-        Parsed::Malformed => Subformula::Atom(0),
+    // The edge before e of the same node into the same state.
+    pub fn next_into(&self, e: usize) -> Option<usize>
+        requires { e < edge_count (job_of self.now) }
+        ensures is { result
+            ≡ edge_told (last_into (job_of self.now) (owner_of (job_of self.now) (edge_from (job_of self.now).structure e))
+            (edge_to (job_of self.now).structure e) e) }
+        ensures upper_bound { IfSome result (λ d. d < e) }
+    {
+        word(&self.words, NEXT + e).checked_sub(1)
+    }
+
+    // A state's place in a node's fragment.
+    pub fn place(&self, n: usize, s: usize) -> Place
+        requires { (n < (job_of self.now).nodes) × (s < size (job_of self.now)) }
+        ensures { result ≡ place_of (job_of self.now) n s }
+    {
+        match self.words[PLACES + (n * 256 + s)] {
+            0 => Place::Outside,
+            1 => Place::Border,
+            _ => Place::Inner,
+        }
+    }
+
+    // How many states node n's fragment has, and the one of rank i.
+    pub fn fragment_size(&self, n: usize) -> usize
+        requires { n < (job_of self.now).nodes }
+        ensures { (result ≡ fragment_size (job_of self.now) n) × (result ≤ 256) }
+    {
+        word(&self.words, SIZES + n)
+    }
+
+    pub fn fragment_state(&self, n: usize, i: usize) -> usize
+        requires { (n < (job_of self.now).nodes) × (i < fragment_size (job_of self.now) n) }
+        ensures { (result ≡ fragment_state (job_of self.now) n i) × (result < size (job_of self.now)) × (result < 256) }
+    {
+        word(&self.words, MEMBERS + (n * 256 + i))
+    }
+
+    // The k-th subformula. No line of a job is malformed.
+    pub fn subformula(&self, k: usize) -> Subformula
+        requires { k < subformula_count (job_of self.now) }
+        ensures { (result ≡ subformula_of (job_of self.now).formula k) × Operands k result }
+    {
+        let kind = word(&self.words, KINDS + k);
+        let a = word(&self.words, LEFTS + k);
+        let b = word(&self.words, RIGHTS + k);
+        parse(k, kind, a, b).unwrap_or(Subformula::Atom(0))
     }
 }

@@ -14,8 +14,7 @@ use Rattle.job.specs.Rule.{rule_of, InRange, Valued}
 use Rattle.job.specs.Written.{Operands}
 use Rattle.job.specs.declared.subformula.Subformula.{Subformula}
 use Rattle.job.specs.declared.subformula.Subformula.TheVariants.{Atom, Not, And, Ax, Ex, Au, Eu, Eg, Ag}
-use Rattle.job.specs.declared.subformula.Parsed.{Parsed}
-use Rattle.job.specs.declared.subformula.Parsed.TheVariants.{Formula, Malformed}
+use Rattle.std.proofs.Common.{Option, Some, None}
 use Rattle.text.specs.Decimal.{Short}
 
 -- These numbers are what f is written with, and f can stand at place k.
@@ -23,16 +22,16 @@ abbrev pub Stands : ℕ → ℕ → ℕ → ℕ → Subformula → Type 0
 Stands k kind a b f = (kind ∷ a ∷ b ∷ [] ≡ fields f) × Operands k f
 
 -- Forward: whatever rung of the nine tests gives f, the numbers are f's.
-no_formula {ℓ} : {A : Type ℓ} (f : Subformula) → Malformed ≡ Formula f → A
+no_formula {ℓ} : {A : Type ℓ} (f : Subformula) → None ≡ Some f → A
 no_formula f e = let stop : ◌≡◌ {A = ℕ} 0 1 = cc in absurd (omega arith)
 
-formula_if : (c : Bool) (g f : Subformula) → cond c (Formula g) Malformed ≡ Formula f → (c ≡ true) × (g ≡ f)
+formula_if : (c : Bool) (g f : Subformula) → cond c (Some g) None ≡ Some f → (c ≡ true) × (g ≡ f)
 formula_if true g f e = (refl, cc)
 formula_if false g f e = no_formula f e
 
 -- one kind of the nine: it is this one, or the test goes on
-rung : {P : Type 0} (kind n : ℕ) (here next : Parsed) (f : Subformula) → cond (eqb kind n) here next ≡ Formula f
-    → (kind ≡ n → here ≡ Formula f → P) → (next ≡ Formula f → P) → P
+rung : {P : Type 0} (kind n : ℕ) (here next : Option Subformula) (f : Subformula) → cond (eqb kind n) here next ≡ Some f
+    → (kind ≡ n → here ≡ Some f → P) → (next ≡ Some f → P) → P
 rung kind n here next f e is other =
     split (eqb kind n)
     (λ t. is (eqb-true kind n t) (sym (cond_true (eqb kind n) here next t) ∙ e))
@@ -41,21 +40,21 @@ rung kind n here next f e is other =
 module _ (k kind a b : ℕ) (f : Subformula) where
   -- a kind with one operand, whose test t stands before that of b, and a kind with two
   one_stands : (n : ℕ) (g : Subformula) (t : Bool) → fields g ≡ n ∷ a ∷ 0 ∷ [] → (t ≡ true → Operands k g) → kind ≡ n
-      → cond (t && eqb b 0) (Formula g) Malformed ≡ Formula f → Stands k kind a b f
+      → cond (t && eqb b 0) (Some g) None ≡ Some f → Stands k kind a b f
   one_stands n g t w o q e =
       let (test, same) = formula_if (t && eqb b 0) g f e in
       let z = eqb-true b 0 (and_right t (eqb b 0) test) in
       subst (Stands k kind a b) same (rw (q, z, w), o (and_left t (eqb b 0) test))
 
   two_stands : (n : ℕ) (g : Subformula) → fields g ≡ n ∷ a ∷ b ∷ [] → ((a < k) × (b < k) → Operands k g) → kind ≡ n
-      → binary k a b g ≡ Formula f → Stands k kind a b f
+      → binary k a b g ≡ Some f → Stands k kind a b f
   unfolding binary
   two_stands n g w o q e =
       let (test, same) = formula_if (ltb a k && ltb b k) g f e in
       subst (Stands k kind a b) same
       (rw (q, w), o (ltb-true a k (and_left (ltb a k) (ltb b k) test), ltb-true b k (and_right (ltb a k) (ltb b k) test)))
 
-  pub parsed_stands : parsed k kind a b ≡ Formula f → Stands k kind a b f
+  pub parsed_stands : parsed k kind a b ≡ Some f → Stands k kind a b f
   unfolding parsed atomic unary fields InRange
   parsed_stands e =
       rung kind 1 _ _ f e (one_stands 1 (Atom a) (leb a 15) refl (leb-true a 15)) λ e.
@@ -120,7 +119,7 @@ fields_below k b (Eg a) w l o = (omega arith, omega arith, omega arith)
 fields_below k b (Ag a) w l o = (omega arith, omega arith, omega arith)
 
 fields_parsed : (k : ℕ) (f : Subformula) → Operands k f
-    → parsed k (get_or (fields f) 0 0) (get_or (fields f) 1 0) (get_or (fields f) 2 0) ≡ Formula f
+    → parsed k (get_or (fields f) 0 0) (get_or (fields f) 1 0) (get_or (fields f) 2 0) ≡ Some f
 unfolding parsed atomic unary binary fields InRange
 fields_parsed k (Atom a) o = simp (le-leb a 15 o)
 fields_parsed k (Not a) o = simp (lt-ltb a k o)
@@ -132,7 +131,7 @@ fields_parsed k (Eu a b) o = simp (lt-ltb a k o.1, lt-ltb b k o.0)
 fields_parsed k (Eg a) o = simp (lt-ltb a k o.0)
 fields_parsed k (Ag a) o = simp (lt-ltb a k o.0)
 
-pub stands_parsed : (k kind a b : ℕ) (f : Subformula) → Stands k kind a b f → parsed k kind a b ≡ Formula f
+pub stands_parsed : (k kind a b : ℕ) (f : Subformula) → Stands k kind a b f → parsed k kind a b ≡ Some f
 stands_parsed k kind a b f (e, o) =
     rw (ap (λ l. get_or l 0 0) e, ap (λ l. get_or l 1 0) e, ap (λ l. get_or l 2 0) e) (fields_parsed k f o)
 
@@ -163,7 +162,7 @@ renamed_same (Eg a) = refl
 renamed_same (Ag a) = refl
 
 -- A line that is not malformed has its formula.
-pub formula_is : (p : Parsed) → is_formula p ≡ true → p ≡ Formula (formula p)
+pub formula_is : (p : Option Subformula) → is_formula p ≡ true → p ≡ Some (formula p)
 unfolding is_formula formula
-formula_is (Formula f) e = refl
-formula_is Malformed e = absurd (true≢false (sym e))
+formula_is (Some f) e = refl
+formula_is None e = absurd (true≢false (sym e))

@@ -21,7 +21,7 @@ use Rattle.job.specs.Answer.{accepted, refused}
 use Rattle.job.specs.Read.{header, head_answer, read_told, has_line, line_start, line_length}
 use Rattle.job.specs.Leaves.{Fits}
 use Rattle.job.specs.declared.reading.Header.{Header}
-use Rattle.job.specs.declared.reading.Reading.TheVariants.{Accepted}
+use Rattle.std.proofs.Common.{Ok}
 
 -- The head's answer in each case.
 module _ (t : Text) where
@@ -58,7 +58,7 @@ module _ (t : Text) where
       head_passes e =
           ranges_yes ∙ answered_yes (text_length t) [] 4 (header t) (eq-eqb (length t) (length_of t) e) ∙ answered_none [] 4 (header t) refl
 
-pub head_fits : (t : Text) (h : Header) → read_told (Accepted h) ≡ head_answer t → Fits t h
+pub head_fits : (t : Text) (h : Header) → read_told (Ok h) ≡ head_answer t → Fits t h
 unfolding read_told header head_answer head_questions all_yes every first_line ranges text_length of_line_one in_ranges length_of
 head_fits t h told =
     let own : List ℕ = h.states ∷ h.edges ∷ h.subformulas ∷ h.nodes ∷ [] in
@@ -128,10 +128,18 @@ line_refused t l number line told =
     (sym (told ∙ answered_none (head_questions t) 4 (header t) (none_refused (head_questions t) yes)))))
     (λ no. simp no)
 
--- no line: the part 0, 0
-pub line_none : (t : Text) (l : ℕ) → has_line t l ≡ false → ((0 ≡ line_start t l) × (0 ≡ line_length t l)) × (0 + 0 ≤ length t)
+-- where it begins and how long it is, where there is such a line and where there is none
+pub line_starts : (t : Text) (l : ℕ) → has_line t l ≡ true → line_start t l ≡ line_at t l
+unfolding line_start
+line_starts t l e = simp e
+
+pub line_has : (t : Text) (l : ℕ) → has_line t l ≡ true → line_length t l ≡ 5 * fields_of t l
+unfolding line_length
+line_has t l e = simp e
+
+pub line_none : (t : Text) (l : ℕ) → has_line t l ≡ false → (line_start t l ≡ 0) × (line_length t l ≡ 0)
 unfolding line_start line_length
-line_none t l e = ((simp e, simp e), omega arith)
+line_none t l e = (simp e, simp e)
 
 module _ (t : Text) (h : Header) (fits : Fits t h) (l : ℕ) where
   pub line_zero : l ≡ 0 → has_line t l ≡ false
@@ -145,7 +153,7 @@ module _ (t : Text) (h : Header) (fits : Fits t h) (l : ℕ) where
       simp (fits.head_yes, le-leb 1 l (omega arith), lt-leb l (1 + states t + edges t + subformulas t) past)
 
   module _ (from : 1 ≤ l) (to : l ≤ 1 + (h.states + h.edges) + h.subformulas) where
-    line_there : has_line t l ≡ true
+    pub line_there : has_line t l ≡ true
     unfolding has_line lines
     line_there =
         let there : l ≤ 1 + states t + edges t + subformulas t = omega arith in
@@ -154,14 +162,6 @@ module _ (t : Text) (h : Header) (fits : Fits t h) (l : ℕ) where
           le-leb 1 l from,
           le-leb l (1 + states t + edges t + subformulas t) there,
         )
-
-    pub line_starts : line_start t l ≡ line_at t l
-    unfolding line_start
-    line_starts = simp line_there
-
-    pub line_has : line_length t l ≡ 5 * fields_of t l
-    unfolding line_length
-    line_has = simp line_there
 
     -- a line's fields and its byte 10 are within the text
     pub line_inside : line_at t l + 5 * fields_of t l < length t

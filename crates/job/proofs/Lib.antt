@@ -9,4 +9,5 @@ pub mod Agrees
 pub mod Exact
 pub mod RuleLaws
 pub mod ReadLaws
+pub mod RefusedLaws
 pub mod SmallLaws

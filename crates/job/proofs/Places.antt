@@ -9,7 +9,7 @@ use Rattle.text.specs.Field.{Text, number_at, formed}
 use Rattle.job.specs.Layout.{states, edges, subformulas, nodes, state_at, edge_at, subformula_at, owner_field, label_field, source_field, target_field, kind_field, left_field, right_field, fields_of, line_at}
 use Rattle.job.specs.Questions.{formed_line}
 use Rattle.job.proofs.LayoutLaws.{fields_two, line_pair, fields_three, line_triple}
-use Rattle.text.proofs.Line.{numbers_at}
+use Rattle.text.specs.Fields.{numbers_at}
 
 -- What holds of each state line, of each edge line and of each subformula line holds of every line behind line 1.
 pub by_line : (P : ℕ → Type 0) (S E K : ℕ)

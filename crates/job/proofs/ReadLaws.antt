@@ -20,12 +20,12 @@ use Rattle.job.specs.Questions.{of_line_one, of_lines, first_line, ranges, text_
 use Rattle.job.specs.Formula.{parsed, formula}
 use Rattle.job.specs.Job.{size, subformula_count, decode}
 use Rattle.job.specs.Answer.{accepted, refused}
-use Rattle.job.specs.Read.{header, head_answer, read_answer, read_told, refusal_of}
+use Rattle.job.specs.Read.{header, head_answer, read_answer, read_told}
+use Rattle.job.specs.Refused.{number_of, line_of_refusal}
 use Rattle.job.specs.Leaves.{Fits}
 use Rattle.job.specs.declared.reading.Header.{Header}
-use Rattle.job.specs.declared.reading.Refusal.{Refusal}
-use Rattle.job.specs.declared.reading.Reading.{Reading}
-use Rattle.job.specs.declared.reading.Reading.TheVariants.{Accepted, Refused}
+use Rattle.job.specs.declared.refusal.Refusal.{Refusal}
+use Rattle.std.proofs.Common.{Ok, Err}
 use Rattle.job.proofs.QuestionLaws.{ComesTo, first_refused, refused_not_accepted, by_refusal, refusal_has, answered_yes, answered_no, answered_none, answered_some, accepted_none, accepted_own, refusal_before, answered_behind}
 use Rattle.job.proofs.Asked.{Passed, accepted_passed}
 use Rattle.job.proofs.LayoutLaws.{head_fits}
@@ -61,7 +61,7 @@ module _ (t : Text) (h : Header) (fits : Fits t h) where
       rw (← found) (sym (behind_head ∙ answered_no fourth (drop 4 (text_questions t)) 4 (header t) fails))
 
 -- What the reader's accepted answer says of the text.
-module _ (t : Text) (h : Header) (told : read_told (Accepted h) ≡ read_answer t) where
+module _ (t : Text) (h : Header) (told : read_told (Ok h) ≡ read_answer t) where
   abbrev own : List ℕ
   own = h.states ∷ h.edges ∷ h.subformulas ∷ h.nodes ∷ []
 
@@ -96,15 +96,11 @@ module _ {A : Type 0} (t : Text) (qs : List Question) (others : ℕ) (own : List
 
   -- so in the reader's own words
   pub reading_refuses :
-      (reading : Reading) (why by : Refusal)
-      → read_told reading ≡ read_answer t
-      → reading ≡ Refused why
-      → by ≡ refusal_of reading
-      → ComesTo (text_questions t) qs others own before made (refused by.number by.line others) before
-  unfolding read_told refusal_of
-  reading_refuses reading why by read is same =
-      let by_is : by ≡ why = same ∙ ap refusal_of is in
-      rw by_is (text_refuses why.number why.line 4 (sym (ap read_told is) ∙ read))
+      (why : Refusal)
+      → read_told (Err why) ≡ read_answer t
+      → ComesTo (text_questions t) qs others own before made (refused (number_of why) (line_of_refusal why) others) before
+  unfolding read_told
+  reading_refuses why read = text_refuses (number_of why) (line_of_refusal why) 4 read
 
 -- A refusal has a number.
 questions_numbered : (t : Text) → every (λ q. ltb 0 q.number) (text_questions t) ≡ true
@@ -140,7 +136,7 @@ decode_length t = (
 )
 
 -- The numbers of the job that an accepted text describes.
-module _ (t : Text) (h : Header) (told : read_told (Accepted h) ≡ read_answer t) where
+module _ (t : Text) (h : Header) (told : read_told (Ok h) ≡ read_answer t) where
   pub size_told : size (decode t) ≡ h.states
   size_told = (decode_length t).1 ∙ (read_fits t h told).states_are
 

@@ -27,8 +27,8 @@ operands_smaller k (Atom j) o = refl
 operands_smaller k (Not a) o = simp (lt-ltb a k o)
 operands_smaller k (And a b) o = simp (lt-ltb a k o.0, lt-ltb b k o.1)
 operands_smaller k (Next all a) o = simp (lt-ltb a k o)
-operands_smaller k (Sets all start grow v) o =
-    every_append (λ a. ltb a k) (asks start) (asks grow) (asks_smaller k start o.0) (asks_smaller k grow o.1)
+operands_smaller k (Sets g) o =
+    every_append (λ a. ltb a k) (asks g.start) (asks g.grow) (asks_smaller k g.start o.0) (asks_smaller k g.grow o.1)
 
 pub asked_smaller : (k : ℕ) (c : Condition) → AsksSmaller k c → (i : ℕ) → i < length (asks c) → get_or (asks c) i 0 < k
 asked_smaller k c o i l = ltb-true (get_or (asks c) i 0) k (every_elim (λ a. ltb a k) (asks c) 0 (asks_smaller k c o) i l)
@@ -49,7 +49,7 @@ range_up k n (Atom j) l o = o
 range_up k n (Not a) l o = omega arith
 range_up k n (And a b) l o = (omega arith, omega arith)
 range_up k n (Next all a) l o = omega arith
-range_up k n (Sets all start grow v) l o = (asks_up k n start l o.0, asks_up k n grow l o.1, o.2)
+range_up k n (Sets g) l o = (asks_up k n g.start l o.0, asks_up k n g.grow l o.1, o.2)
 
 -- It goes by sets, or it does not.
 abbrev is_sets : Rule → Bool
@@ -57,7 +57,7 @@ is_sets (Atom j) = false
 is_sets (Not a) = false
 is_sets (And a b) = false
 is_sets (Next all a) = false
-is_sets (Sets all start grow v) = true
+is_sets (Sets g) = true
 
 pub not_sets : (r : Rule) → is_sets r ≡ false → IsSets r → ⊥
 not_sets r e i = true≢false (sym (ap is_sets i.is) ∙ e)
@@ -67,23 +67,17 @@ by_sets_lem (Atom j) sets other = other (not_sets (Atom j) refl)
 by_sets_lem (Not a) sets other = other (not_sets (Not a) refl)
 by_sets_lem (And a b) sets other = other (not_sets (And a b) refl)
 by_sets_lem (Next all a) sets other = other (not_sets (Next all a) refl)
-by_sets_lem (Sets all start grow v) sets other = sets (record { all = all; start = start; grow = grow; value = v; is = refl })
+by_sets_lem (Sets g) sets other = sets (record { growth = g; is = refl })
 
 -- What sets name is in range.
-pub sets_range : (k : ℕ) (r : Rule) (sets : IsSets r) → InRange k r → AsksSmaller k sets.start × AsksSmaller k sets.grow × (sets.value ≤ 1)
+pub sets_range : (k : ℕ) (r : Rule) (sets : IsSets r) → InRange k r → AsksSmaller k sets.growth.start × AsksSmaller k sets.growth.grow × (sets.growth.value ≤ 1)
 unfolding InRange
 sets_range k r sets o = rw sets.is at o
 
--- Closing fills 1 where the smallest set gives 0, and 0 where it does not.
-pub closed_one : (r : Rule) (all : Bool) (start grow : Condition) (v : ℕ) → r ≡ Sets all start grow v → v ≡ 0 → 1 ≡ closed_value r
-closed_one r all start grow v e z = rw e (omega arith)
-
-pub closed_zero : (r : Rule) (all : Bool) (start grow : Condition) (v : ℕ) → r ≡ Sets all start grow v → (v ≡ 0 → ⊥) → 0 ≡ closed_value r
-closed_zero r all start grow v e n = rw e (omega arith)
-
+-- What closing fills is 0 or 1.
 pub closed_bound : (r : Rule) → closed_value r ≤ 1
 closed_bound (Atom j) = omega arith
 closed_bound (Not a) = omega arith
 closed_bound (And a b) = omega arith
 closed_bound (Next all a) = omega arith
-closed_bound (Sets all start grow v) = omega arith
+closed_bound (Sets g) = omega arith

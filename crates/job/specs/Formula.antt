@@ -2,28 +2,26 @@
 -- Document 01, "Kinds: 1 atom a; 2 not a; 3 a and b; 4 AX a; 5 EX a; 6 A(a U b); 7 E(a U b)", and document 02 (iii), "kind 8, EG a, and
 -- kind 9, AG a": the line of subformula k as an enum case with its operands, or malformed. "For kind 1, a is 0 to 15. For the others a
 -- is a smaller subformula number. For kinds 3, 6 and 7 so is b; elsewhere b is 0." Assumes nothing.
-use Rattle.std.specs.Prelude.{ℕ, Bool, true, false, cond, ◌&&◌, List, [], ◌∷◌, leb, ltb, eqb}
+use Rattle.std.specs.Prelude.{ℕ, Bool, true, false, cond, ◌&&◌, List, [], ◌∷◌, leb, ltb, eqb, Option, Some, None}
 use Rattle.job.specs.declared.subformula.Subformula.{Subformula}
 use Rattle.job.specs.declared.subformula.Subformula.TheVariants.{Atom, Not, And, Ax, Ex, Au, Eu, Eg, Ag}
 use Rattle.job.specs.declared.rule.Condition.TheVariants.{Always, Holds, Fails}
 use Rattle.job.specs.declared.rule.Rule.{Rule}
 use Rattle.job.specs.declared.rule.Rule.TheVariants as rule
-use Rattle.job.specs.declared.subformula.Parsed.{Parsed}
-use Rattle.job.specs.declared.subformula.Parsed.TheVariants.{Formula, Malformed}
 
 -- an atom
-unfoldable pub atomic : ℕ → ℕ → Parsed
-atomic a b = cond (leb a 15 && eqb b 0) (Formula (Atom a)) Malformed
+unfoldable pub atomic : ℕ → ℕ → Option Subformula
+atomic a b = cond (leb a 15 && eqb b 0) (Some (Atom a)) None
 
 -- f, if a is a smaller number than k and b is 0
-unfoldable pub unary : ℕ → ℕ → ℕ → Subformula → Parsed
-unary k a b f = cond (ltb a k && eqb b 0) (Formula f) Malformed
+unfoldable pub unary : ℕ → ℕ → ℕ → Subformula → Option Subformula
+unary k a b f = cond (ltb a k && eqb b 0) (Some f) None
 
 -- f, if a and b are smaller numbers than k
-unfoldable pub binary : ℕ → ℕ → ℕ → Subformula → Parsed
-binary k a b f = cond (ltb a k && ltb b k) (Formula f) Malformed
+unfoldable pub binary : ℕ → ℕ → ℕ → Subformula → Option Subformula
+binary k a b f = cond (ltb a k && ltb b k) (Some f) None
 
-unfoldable pub parsed : ℕ → ℕ → ℕ → ℕ → Parsed
+unfoldable pub parsed : ℕ → ℕ → ℕ → ℕ → Option Subformula
 parsed k kind a b =
     cond (eqb kind 1) (atomic a b)
     (cond (eqb kind 2) (unary k a b (Not a))
@@ -33,7 +31,7 @@ parsed k kind a b =
     (cond (eqb kind 6) (binary k a b (Au a b))
     (cond (eqb kind 7) (binary k a b (Eu a b))
     (cond (eqb kind 8) (unary k a b (Eg a))
-    (cond (eqb kind 9) (unary k a b (Ag a)) Malformed))))))))
+    (cond (eqb kind 9) (unary k a b (Ag a)) None))))))))
 
 -- The numbers of its line, "kind, a, b".
 unfoldable pub fields : Subformula → List ℕ
@@ -47,14 +45,21 @@ fields (Eu a b) = 7 ∷ a ∷ b ∷ []
 fields (Eg a) = 8 ∷ a ∷ 0 ∷ []
 fields (Ag a) = 9 ∷ a ∷ 0 ∷ []
 
-unfoldable pub is_formula : Parsed → Bool
-is_formula (Formula f) = true
-is_formula Malformed = false
+unfoldable pub is_formula : Option Subformula → Bool
+is_formula (Some f) = true
+is_formula None = false
 
 -- The subformula of a line that is not malformed.
-unfoldable pub formula : Parsed → Subformula
-formula (Formula f) = f
-formula Malformed = Atom 0
+unfoldable pub formula : Option Subformula → Subformula
+formula (Some f) = f
+formula None = Atom 0
+
+-- The untils start where b is true, grow where a is, and give 1; EG and AG start where a is false, grow anywhere, and give 0.
+abbrev pub until : Bool → ℕ → ℕ → Rule
+until all a b = rule.Sets (record { all = all; start = Holds b; grow = Holds a; value = 1 })
+
+abbrev pub global : Bool → ℕ → Rule
+global all a = rule.Sets (record { all = all; start = Fails a; grow = Always; value = 0 })
 
 -- What a step does for it.
 abbrev pub rule_of : Subformula → Rule
@@ -63,10 +68,10 @@ rule_of (Not a) = rule.Not a
 rule_of (And a b) = rule.And a b
 rule_of (Ax a) = rule.Next true a
 rule_of (Ex a) = rule.Next false a
-rule_of (Au a b) = rule.Sets true (Holds b) (Holds a) 1
-rule_of (Eu a b) = rule.Sets false (Holds b) (Holds a) 1
-rule_of (Eg a) = rule.Sets true (Fails a) Always 0
-rule_of (Ag a) = rule.Sets false (Fails a) Always 0
+rule_of (Au a b) = until true a b
+rule_of (Eu a b) = until false a b
+rule_of (Eg a) = global true a
+rule_of (Ag a) = global false a
 
 -- The same with its operands renamed; an atom keeps its number.
 unfoldable pub renamed : (ℕ → ℕ) → Subformula → Subformula

@@ -1,6 +1,7 @@
 pub mod Layout
 pub mod Formula
 pub mod Answer
+pub mod Refused
 pub mod Question
 pub mod Questions
 pub mod Read

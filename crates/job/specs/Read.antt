@@ -1,15 +1,15 @@
 -- The calls read and line. Document 01: "Read puts 1 to 8 ..; read also gives S, E, K, N." "The call line takes a text and a
 -- line number and hands back that part of the caller's text without byte 10; the line is found by the lengths above and its
 -- last byte is dropped unread; the part is empty if questions 1 to 3 fail or no such line exists." Assumes nothing.
-use Rattle.std.specs.Prelude.{ℕ, ◌*◌, Bool, cond, ◌&&◌, List, [], ◌∷◌, take, drop, leb}
+use Rattle.std.specs.Prelude.{ℕ, ◌*◌, Bool, cond, ◌&&◌, List, [], ◌∷◌, take, drop, leb, Result}
 use Rattle.text.specs.Field.{Text}
 use Rattle.job.specs.Layout.{states, edges, subformulas, nodes, lines, fields_of, line_at}
 use Rattle.job.specs.Question.{all_yes, answered}
 use Rattle.job.specs.Questions.{head_questions, text_questions}
-use Rattle.job.specs.Answer.{Answer, accepted, refused}
-use Rattle.job.specs.declared.reading.Refusal.{Refusal}
-use Rattle.job.specs.declared.reading.Reading.{Reading}
-use Rattle.job.specs.declared.reading.Reading.TheVariants.{Accepted, Refused}
+use Rattle.job.specs.Answer.{Answer}
+use Rattle.job.specs.Refused.{told}
+use Rattle.job.specs.declared.reading.Header.{Header}
+use Rattle.job.specs.declared.refusal.Refusal.{Refusal}
 
 unfoldable pub header : Text → List ℕ
 header t = states t ∷ edges t ∷ subformulas t ∷ nodes t ∷ []
@@ -21,15 +21,12 @@ read_answer t = answered (text_questions t) 4 (header t)
 unfoldable pub head_answer : Text → Answer
 head_answer t = answered (head_questions t) 4 (header t)
 
--- What each case of the reader's enum says, in document 01's numbers.
-unfoldable pub read_told : Reading → Answer
-read_told (Accepted h) = accepted (h.states ∷ h.edges ∷ h.subformulas ∷ h.nodes ∷ [])
-read_told (Refused why) = refused why.number why.line 4
+-- The numbers of line 1, and what the reader's result says in numbers.
+abbrev pub header_numbers : Header → List ℕ
+header_numbers h = h.states ∷ h.edges ∷ h.subformulas ∷ h.nodes ∷ []
 
--- The refusal in the reader's answer.
-unfoldable pub refusal_of : Reading → Refusal
-refusal_of (Accepted h) = record { number = 0; line = 0 }
-refusal_of (Refused why) = why
+unfoldable pub read_told : Result Header Refusal → Answer
+read_told r = told header_numbers 4 r
 
 -- Whether there is a line l to hand back: questions 1 to 3 are answered yes, and lines are counted from 1.
 unfoldable pub has_line : Text → ℕ → Bool

@@ -4,5 +4,6 @@
 #![tactic(auto)]
 
 pub mod reading;
+pub mod refusal;
 pub mod rule;
 pub mod subformula;

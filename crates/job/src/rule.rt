@@ -1,18 +1,27 @@
 // What a step does for a subformula: one table from the kinds to five rules. What is done by rule holds for every kind in the table.
 ghost use Rattle.std.specs.Prelude.{◌≡◌};
-ghost use Rattle.job.specs.Rule.{rule_of, temporal, closed_value};
+ghost use Rattle.job.specs.Rule.{until, global, rule_of, temporal, closed_value};
 
 use crate::subformula::Subformula;
 
 // What is asked of a state: nothing, or that an operand is true there, or that it is false.
-#[derive(Clone, Copy)]
+#[derive(Clone, Copy, Debug, PartialEq, Eq)]
 pub enum Condition {
     Always,
     Holds(usize),
     Fails(usize),
 }
 
-#[derive(Clone, Copy)]
+// How the smallest set of a rule grows: over all successors or some, where a state starts in it, where it may grow, and the value that it gives.
+#[derive(Clone, Copy, Debug, PartialEq, Eq)]
+pub struct Growth {
+    pub all: bool,
+    pub start: Condition,
+    pub grow: Condition,
+    pub value: u8,
+}
+
+#[derive(Clone, Copy, Debug, PartialEq, Eq)]
 pub enum Rule {
     // The atom's number: true where the label has it.
     Atom(usize),
@@ -22,9 +31,32 @@ pub enum Rule {
     And(usize, usize),
     // True where the operand is, at all successors or at some.
     Next(bool, usize),
-    // By the smallest set of states: over all successors or some, where a state starts in it, where it may grow, and the value that the
-    // set gives.
-    Sets(bool, Condition, Condition, u8),
+    // By the smallest set of states that grows so.
+    Sets(Growth),
+}
+
+// The untils: a set of states that starts where b is true, grows where a is, and gives 1.
+fn until(all: bool, a: usize, b: usize) -> Rule
+    ensures { result ≡ until all a b }
+{
+    Rule::Sets(Growth {
+        all,
+        start: Condition::Holds(b),
+        grow: Condition::Holds(a),
+        value: 1,
+    })
+}
+
+// EG and AG: a set of states that starts where a is false, grows anywhere, and gives 0.
+fn global(all: bool, a: usize) -> Rule
+    ensures { result ≡ global all a }
+{
+    Rule::Sets(Growth {
+        all,
+        start: Condition::Fails(a),
+        grow: Condition::Always,
+        value: 0,
+    })
 }
 
 // The table.
@@ -37,10 +69,10 @@ pub fn rule_of(f: Subformula) -> Rule
         Subformula::And(a, b) => Rule::And(a, b),
         Subformula::Ax(a) => Rule::Next(true, a),
         Subformula::Ex(a) => Rule::Next(false, a),
-        Subformula::Au(a, b) => Rule::Sets(true, Condition::Holds(b), Condition::Holds(a), 1),
-        Subformula::Eu(a, b) => Rule::Sets(false, Condition::Holds(b), Condition::Holds(a), 1),
-        Subformula::Eg(a) => Rule::Sets(true, Condition::Fails(a), Condition::Always, 0),
-        Subformula::Ag(a) => Rule::Sets(false, Condition::Fails(a), Condition::Always, 0),
+        Subformula::Au(a, b) => until(true, a, b),
+        Subformula::Eu(a, b) => until(false, a, b),
+        Subformula::Eg(a) => global(true, a),
+        Subformula::Ag(a) => global(false, a),
     }
 }
 
@@ -48,13 +80,7 @@ pub fn rule_of(f: Subformula) -> Rule
 pub fn is_temporal(r: Rule) -> bool
     ensures { result ≡ temporal r }
 {
-    match r {
-        Rule::Atom(_) => false,
-        Rule::Not(_) => false,
-        Rule::And(_, _) => false,
-        Rule::Next(_, _) => true,
-        Rule::Sets(_, _, _, _) => true,
-    }
+    matches!(r, Rule::Next(..) | Rule::Sets(..))
 }
 
 // What closing fills: the value that the smallest set does not give.
@@ -62,10 +88,7 @@ pub fn closed_value(r: Rule) -> u8
     ensures { result ≡ closed_value r }
 {
     match r {
-        Rule::Atom(_) => 0,
-        Rule::Not(_) => 0,
-        Rule::And(_, _) => 0,
-        Rule::Next(_, _) => 0,
-        Rule::Sets(_, _, _, v) => { if v == 0 { 1 } else { 0 } }
+        Rule::Sets(g) => u8::from(g.value == 0),
+        _ => 0,
     }
 }

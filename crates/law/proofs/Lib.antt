@@ -6,3 +6,5 @@ pub mod Least
 pub mod Greatest
 pub mod Chunks
 pub mod Pieces
+pub mod Positions
+pub mod Ranges

@@ -1,7 +1,7 @@
 -- A line's fields and where it begins are the text's own, by how many lines have two fields; counting the lines that are right finds the first
 -- that is not. Assumes nothing.
 use Prim.Native.Nat.{ℕ, suc, ◌+◌, ◌-◌, ◌*◌}
-use mathlib.Core.Path.{◌≡◌, sym, ◌∙◌, ap, ap₂}
+use mathlib.Core.Path.{◌≡◌, sym, refl, ◌∙◌, ap, ap₂}
 use mathlib.Core.Bool.{Bool, cond, not}
 use native.Mathlib.Numerals.{add-one}
 use native.Mathlib.Omega.{arith}
@@ -12,7 +12,11 @@ use Rattle.law.proofs.Bool.{split, not_is_true, not_is_false, and_no_right}
 use Rattle.law.proofs.Bounded.{by_order, first_le, first_found, first_next, first_passed}
 use Rattle.text.specs.Field.{Text}
 use Rattle.job.specs.Layout.{states, edges, state_at, subformula_at, fields_of, line_at}
-use Rattle.layout.specs.Lines.{fields_in, start_of, right_after}
+use Rattle.job.specs.Read.{has_line, line_start, line_length, line_of}
+use Rattle.job.proofs.LayoutLaws.{line_starts, line_has, line_none}
+use Rattle.layout.specs.Lines.{fields_in, start_of, part_of, right_after}
+use Rattle.layout.specs.declared.lines.Part.{Part}
+use Rattle.std.proofs.Common.{Some, None, true, false, unwrap_or, [], take, drop}
 
 module _ (t : Text) (pairs l : ℕ) (same : states t + edges t ≡ pairs) where
   two : 1 + pairs ≡ 1 + states t + edges t
@@ -27,6 +31,43 @@ module _ (t : Text) (pairs l : ℕ) (same : states t + edges t ≡ pairs) where
   start_of_line =
       let last : 21 + 11 * pairs + 16 * (l - (2 + pairs)) ≡ subformula_at t (l - (2 + states t + edges t)) = omega arith in
       ap₂ (λ n x. cond (leb l 1) 0 (cond (leb l n) (21 + 11 * (l - 2)) x)) two last
+
+-- The part of the text that is a line, where there is one and where there is none.
+module _ (t : Text) (l : ℕ) where
+  pub part_some : has_line t l ≡ true → (start fields : ℕ) → start ≡ line_at t l → fields ≡ fields_of t l
+      → Some (record { start = start; size = 5 * fields }) ≡ part_of t l
+  unfolding part_of
+  part_some e start fields s f = rw (s, f, e) refl
+
+  pub part_none : has_line t l ≡ false → None ≡ part_of t l
+  unfolding part_of
+  part_none e = sym (simp e)
+
+  abbrev empty : Part
+  empty = record { start = 0; size = 0 }
+
+  -- The empty part at the text's front stands for a line that is not there.
+  pub part_or_empty : (unwrap_or (part_of t l) empty).start ≡ line_start t l × (unwrap_or (part_of t l) empty).size ≡ line_length t l
+  unfolding part_of
+  part_or_empty =
+      split (has_line t l)
+      (λ e. rw e (sym (line_starts t l e), sym (line_has t l e)))
+      (λ e. let none = line_none t l e in rw e (sym none.0, sym none.1))
+
+  -- The bytes of the part are the line, and where there is none the line is empty.
+  pub line_some : (p : Part) → part_of t l ≡ Some p → take p.size (drop p.start t) ≡ line_of t l
+  unfolding line_of
+  line_some p is =
+      let both = part_or_empty in
+      let here = rw is at both in
+      ap₂ (λ n a. take n (drop a t)) here.1 here.0
+
+  pub line_empty : part_of t l ≡ None → [] ≡ line_of t l
+  unfolding line_of
+  line_empty is =
+      let both = part_or_empty in
+      let here = rw is at both in
+      ap₂ (λ n a. take n (drop a t)) here.1 here.0
 
 module _ (ok : ℕ → Bool) (n : ℕ) where
   abbrev found : ℕ

@@ -1,54 +1,40 @@
 // Questions 1 to 3: line 1 and the length of a text.
 ghost use Rattle.std.specs.Prelude.{◌≡◌};
-ghost use Rattle.job.specs.Questions.{in_ranges, within};
+ghost use Rattle.job.specs.Questions.{in_ranges};
 ghost use Rattle.job.specs.Read.{read_told, head_answer};
 
-use crate::refusal::refuse;
-use job::reading::{Header, Reading};
-use text::field::{is_formed, number};
+use job::reading::Header;
+use job::refusal::Refusal;
+use text::fields::read_line;
 
-fn is_within(low: usize, high: usize, n: usize) -> bool
-    ensures { result ≡ within low high n }
-{
-    low <= n && n <= high
-}
-
+#[tactic(auto, unfolding(job::specs::Questions::in_ranges, job::specs::Questions::within))]
 fn are_in_ranges(states: usize, edges: usize, subformulas: usize, nodes: usize) -> bool
     ensures { result ≡ in_ranges states edges subformulas nodes }
 {
-    if !is_within(1, 256, states) {
-        return false;
-    }
-    if !is_within(1, 2048, edges) {
-        return false;
-    }
-    if !is_within(1, 32, subformulas) {
-        return false;
-    }
-    is_within(1, 8, nodes)
+    (1..=256).contains(&states)
+        && (1..=2048).contains(&edges)
+        && (1..=32).contains(&subformulas)
+        && (1..=8).contains(&nodes)
 }
 
 // Questions 1 to 3, and the numbers of line 1.
-pub fn head(text: &[u8]) -> Reading
+pub fn head(text: &[u8]) -> Result<Header, Refusal>
     ensures { read_told result ≡ head_answer text.now }
 {
     if text.len() < 21 {
-        return refuse(1, 1);
+        return Err(Refusal::LineOne);
     }
-    if !is_formed(text, 0, 4) {
-        return refuse(1, 1);
-    }
-    let states = number(text, 0);
-    let edges = number(text, 5);
-    let subformulas = number(text, 10);
-    let nodes = number(text, 15);
+    let Some(line) = read_line::<4>(text, 0) else {
+        return Err(Refusal::LineOne);
+    };
+    let [states, edges, subformulas, nodes] = line;
     if !are_in_ranges(states, edges, subformulas, nodes) {
-        return refuse(2, 1);
+        return Err(Refusal::Ranges);
     }
     if text.len() != 21 + 11 * states + 11 * edges + 16 * subformulas {
-        return refuse(3, 1);
+        return Err(Refusal::TextLength);
     }
-    Reading::Accepted(Header {
+    Ok(Header {
         states,
         edges,
         subformulas,

@@ -4,4 +4,3 @@
 
 pub mod head;
 pub mod lines;
-pub mod refusal;

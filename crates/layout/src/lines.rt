@@ -1,12 +1,11 @@
 // Where a line stands, and how far lines are right.
-ghost use Rattle.std.specs.Prelude.{◌≡◌, ◌+◌, ◌≤◌, length};
-ghost use Rattle.job.specs.Read.{line_start, line_length};
-ghost use Rattle.layout.specs.Lines.{fields_in, start_of, right_after};
+ghost use Rattle.std.specs.Prelude.{◌≡◌, ◌+◌, ◌≤◌, IfSome, length};
+ghost use Rattle.layout.specs.Lines.{fields_in, start_of, part_of, right_after};
 
 use crate::head::head;
-use job::reading::Reading;
 
 // How many fields line `number` has, where `pairs` lines behind line 1 have two: a state's or an edge's.
+#[tactic(auto, unfolding(crate::specs::Lines::fields_in))]
 fn fields_in(pairs: usize, number: usize) -> usize
     requires { pairs ≤ 2304 }
     ensures { result ≡ fields_in pairs number }
@@ -21,6 +20,7 @@ fn fields_in(pairs: usize, number: usize) -> usize
 }
 
 // Where line `number` begins.
+#[tactic(auto, unfolding(crate::specs::Lines::start_of))]
 fn line_start(pairs: usize, number: usize) -> usize
     requires { (pairs ≤ 2304) × (number ≤ 2337) }
     ensures { result ≡ start_of pairs number }
@@ -35,44 +35,39 @@ fn line_start(pairs: usize, number: usize) -> usize
 }
 
 // A part of a text: where it begins, and how many bytes it has.
-#[derive(Clone, Copy)]
+#[derive(Clone, Copy, Debug, PartialEq, Eq)]
 pub struct Part {
     pub start: usize,
     pub size: usize,
 }
 
-// Where line `number` stands, counted from 1, without byte 10; 0 and 0 where there is no such line.
-pub fn line_part(text: &[u8], number: usize) -> Part
-    ensures stands { (result.start ≡ line_start text.now number) × (result.size ≡ line_length text.now number) }
-    ensures inside { result.start + result.size ≤ length text.now }
+// Where line `number` stands, counted from 1, without byte 10, if there is such a line.
+pub fn line_part(text: &[u8], number: usize) -> Option<Part>
+    ensures stands { result ≡ part_of text.now number }
+    ensures inside { IfSome result (λ part. part.start + part.size ≤ length text.now) }
 {
-    let head = head(text);
-    let Reading::Accepted(h) = head else {
-        return Part { start: 0, size: 0 };
+    let Ok(h) = head(text) else {
+        return None;
     };
     let pairs = h.states + h.edges;
-    if number == 0 {
-        return Part { start: 0, size: 0 };
+    if number == 0 || 1 + pairs + h.subformulas < number {
+        return None;
     }
-    if 1 + pairs + h.subformulas < number {
-        return Part { start: 0, size: 0 };
-    }
-    Part {
+    Some(Part {
         start: line_start(pairs, number),
         size: 5 * fields_in(pairs, number),
-    }
+    })
 }
 
 // How many of some lines are right before the first that is not, with one line more: `right` of `lines` so far, and whether the next one is right.
+#[tactic(auto, unfolding(crate::specs::Lines::right_after))]
 pub fn right_after(right: usize, lines: usize, ok: bool) -> usize
     requires { right ≤ 2304 }
     ensures { result ≡ right_after right lines ok }
 {
-    if right != lines {
-        return right;
+    if right == lines && ok {
+        right + 1
+    } else {
+        right
     }
-    if !ok {
-        return right;
-    }
-    right + 1
 }

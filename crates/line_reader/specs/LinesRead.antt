@@ -1,15 +1,16 @@
--- What the loops over the lines of a text promise: how far the lines are well-formed, what their questions are answered from, and which words of
--- the lent array hold their numbers. Assumes nothing.
-use Rattle.std.specs.Prelude.{ℕ, ◌%◌, ◌<◌, ◌≤◌, ◌≡◌, Bool, not, List, [], ◌∷◌, length, get_or}
+-- What the loops over the lines of a text promise: the first line that is malformed or what their questions are answered from, and which words of
+-- the lent array hold the numbers of the lines before it. Assumes nothing.
+use Rattle.std.specs.Prelude.{ℕ, ◌+◌, ◌%◌, ◌<◌, ◌≤◌, ◌≡◌, Bool, not, List, [], ◌∷◌, length, get_or, Result, Ok, Err}
 use Rattle.law.specs.Bounded.{first}
 use Rattle.text.specs.Field.{Text, formed as formed_at}
 use Rattle.job.specs.Layout as layout
 use Rattle.job.specs.Questions.{state_ok, formula_ok}
 use Rattle.job.specs.declared.reading.Header.{Header}
+use Rattle.job.specs.declared.refusal.Refusal.{Refusal}
+use Rattle.job.specs.declared.refusal.Refusal.TheVariants.{MalformedLine}
 use Rattle.edge_pass.specs.EdgePass.{kept_after}
 use Rattle.edge_pass.specs.declared.Kept.{Kept}
 use Rattle.image.specs.Image.{WORDS, OWNERS, LABELS, SOURCES, TARGETS, KINDS, LEFTS, RIGHTS, FIRST, word}
-use Rattle.line_reader.specs.declared.lines.Lines.{Lines}
 
 -- The first n words of a region hold f 0, f 1, .., modulo 65,536.
 abbrev pub Holds : List ℕ → ℕ → ℕ → (ℕ → ℕ) → Type 0
@@ -21,10 +22,19 @@ pub record Changed (before m : List ℕ) (low high : ℕ) : Type 0 where
   pub below : (i : ℕ) → i < low → get_or m i 0 ≡ get_or before i 0
   pub above : (i : ℕ) → high ≤ i → get_or m i 0 ≡ get_or before i 0
 
--- Of n lines, `formed` are well-formed before the first that is not, and of these `right` are right before the first that is not.
-pub record LinesRead (is_formed is_right : ℕ → Bool) (n formed right : ℕ) : Type 0 where
-  pub formed_are : formed ≡ first (λ i. not (is_formed i)) n
-  pub right_are : right ≡ first (λ i. not (is_right i)) formed
+-- How many of n lines are well-formed before the first that is not.
+abbrev pub formed_lines : (ℕ → Bool) → ℕ → ℕ
+formed_lines is_formed n = first (λ i. not (is_formed i)) n
+
+-- What a loop over n lines says, where the first of them is line `number` of the text: every one is well-formed, and it keeps this; or the first that
+-- is not is reported.
+abbrev pub LinesRead : {A : Type 0} → (ℕ → Bool) → ℕ → ℕ → (A → Type 0) → Result A Refusal → Type 0
+LinesRead is_formed n number Keeps (Ok kept) = (formed_lines is_formed n ≡ n) × Keeps kept
+LinesRead is_formed n number Keeps (Err why) = (formed_lines is_formed n < n) × (why ≡ MalformedLine (number + formed_lines is_formed n))
+
+-- How many of n lines are right before the first that is not.
+abbrev pub RightLines : (ℕ → Bool) → ℕ → ℕ → Type 0
+RightLines is_right n right = right ≡ first (λ i. not (is_right i)) n
 
 -- Line 1.
 abbrev pub header_of : Header → List ℕ
@@ -43,9 +53,9 @@ pub record StatesLaid (t : Text) (n : ℕ) (before m : List ℕ) : Type 0 where
   pub labels : Holds m LABELS n (layout.label_field t)
   pub changed : Changed before m OWNERS SOURCES
 
-pub record StatesRead (t : Text) (h : Header) (before m : List ℕ) (r : Lines) : Type 0 where
-  pub lines : LinesRead (state_formed t) (state_ok t) h.states r.formed r.right
-  pub laid : StatesLaid t r.formed before m
+pub record StatesRead (t : Text) (h : Header) (before m : List ℕ) (r : Result ℕ Refusal) : Type 0 where
+  pub lines : LinesRead (state_formed t) h.states 2 (RightLines (state_ok t) h.states) r
+  pub laid : StatesLaid t (formed_lines (state_formed t) h.states) before m
 
 -- The edge lines.
 unfoldable pub edge_formed : Text → ℕ → Bool
@@ -56,10 +66,9 @@ pub record EdgesLaid (t : Text) (n : ℕ) (before m : List ℕ) : Type 0 where
   pub targets : Holds m TARGETS n (layout.target_field t)
   pub changed : Changed before m SOURCES KINDS
 
-pub record EdgesRead (t : Text) (h : Header) (before m : List ℕ) (k : Kept) : Type 0 where
-  pub formed_are : k.order.lines ≡ first (λ e. not (edge_formed t e)) h.edges
-  pub kept : k ≡ kept_after t k.order.lines
-  pub laid : EdgesLaid t k.order.lines before m
+pub record EdgesRead (t : Text) (h : Header) (before m : List ℕ) (r : Result Kept Refusal) : Type 0 where
+  pub lines : LinesRead (edge_formed t) h.edges (2 + h.states) (λ k. k ≡ kept_after t h.edges) r
+  pub laid : EdgesLaid t (formed_lines (edge_formed t) h.edges) before m
 
 -- The subformula lines.
 unfoldable pub formula_formed : Text → ℕ → Bool
@@ -71,6 +80,6 @@ pub record FormulasLaid (t : Text) (n : ℕ) (before m : List ℕ) : Type 0 wher
   pub rights : Holds m RIGHTS n (layout.right_field t)
   pub changed : Changed before m KINDS FIRST
 
-pub record FormulasRead (t : Text) (h : Header) (before m : List ℕ) (r : Lines) : Type 0 where
-  pub lines : LinesRead (formula_formed t) (formula_ok t) h.subformulas r.formed r.right
-  pub laid : FormulasLaid t r.formed before m
+pub record FormulasRead (t : Text) (h : Header) (before m : List ℕ) (r : Result ℕ Refusal) : Type 0 where
+  pub lines : LinesRead (formula_formed t) h.subformulas (2 + (h.states + h.edges)) (RightLines (formula_ok t) h.subformulas) r
+  pub laid : FormulasLaid t (formed_lines (formula_formed t) h.subformulas) before m

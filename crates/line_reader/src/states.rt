@@ -1,14 +1,13 @@
 // The state lines: question 5.
-ghost use Rattle.std.specs.Prelude.{◌≡◌, ◌&&◌, ltb, leb, length};
+ghost use Rattle.std.specs.Prelude.{◌≡◌, ◌&&◌, ltb, leb};
 ghost use Rattle.job.specs.Leaves.{Fits};
-ghost use Rattle.image.specs.Image.{WORDS};
 ghost use Rattle.line_reader.specs.LinesRead.{StatesRead};
 
-use crate::lines::{Lines, lay};
-use image::image::{Image, LABELS, OWNERS};
+use image::image::{LABELS, OWNERS, Words, set_word};
 use job::reading::Header;
+use job::refusal::Refusal;
 use layout::lines::right_after;
-use text::fields::{Pair, read_pair};
+use text::fields::read_line;
 
 fn is_state(nodes: usize, owner: usize, label: usize) -> bool
     ensures { result ≡ (ltb owner nodes && leb label 65535) }
@@ -16,25 +15,18 @@ fn is_state(nodes: usize, owner: usize, label: usize) -> bool
     owner < nodes && label <= 65535
 }
 
-pub fn read_states(text: &[u8], h: Header, m: &mut Image) -> Lines
-    requires fits { Fits text.now h }
-    requires m_len { length m.old ≡ WORDS }
+// How many state lines are right before the first that is not, where every one is well-formed.
+pub fn read_states(text: &[u8], h: Header, m: &mut Words) -> Result<usize, Refusal>
+    requires { Fits text.now h }
     ensures { StatesRead text.now h m.old m.new result }
 {
-    let states = h.states;
-    let nodes = h.nodes;
     let mut right = 0;
-    for s in 0..states {
-        let line = read_pair(text, 21 + 11 * s);
-        let Pair::Numbers(owner, label) = line else {
-            return Lines { formed: s, right };
-        };
-        lay(m, OWNERS + s, owner);
-        lay(m, LABELS + s, label);
-        right = right_after(right, s, is_state(nodes, owner, label));
+    for s in 0..h.states {
+        let malformed = Refusal::MalformedLine(2 + s);
+        let [owner, label] = read_line::<2>(text, 21 + 11 * s).ok_or(malformed)?;
+        set_word(m, OWNERS + s, owner);
+        set_word(m, LABELS + s, label);
+        right = right_after(right, s, is_state(h.nodes, owner, label));
     }
-    Lines {
-        formed: states,
-        right,
-    }
+    Ok(right)
 }

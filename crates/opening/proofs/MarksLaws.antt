@@ -1,9 +1,10 @@
 -- Questions 25 and 26 from searches for a mark above 1 and for one above 0; and an opening state that says no, by the code's tests. Assumes nothing.
-use Prim.Native.Nat.{ℕ, zero, suc, ◌-◌, ◌≤◌}
+use Prim.Native.Nat.{ℕ, zero, suc, ◌-◌, ◌<◌, ◌≤◌}
 use mathlib.Core.Path.{◌≡◌, refl, sym, ◌∙◌}
 use mathlib.Core.Bool.{Bool, true, false, not}
 use mathlib.Core.List.{List, [], ◌∷◌}
 use mathlib.Core.Option.{Option-elim}
+use Rattle.std.proofs.Common.{Option, Some, None, cond, is_none, unwrap_or, IfSome}
 use native.Mathlib.Omega.{arith}
 use borrow.Author.Tests.{eq-eqb, ne_eqb, ltb-true, ltb-false, le-leb, lt-leb}
 use lib.ListN.{length, get_or}
@@ -15,9 +16,9 @@ use Rattle.job.specs.Job.{Job, size, subformula_count}
 use Rattle.job.specs.Question.{Question, of_call, refusal, no_number}
 use Rattle.job.proofs.QuestionLaws.{no_number_yes, no_number_no}
 use Rattle.cells.specs.Table.{Table, owner_cell}
-use Rattle.cells.specs.Opening.{opens, are_marks, some_opening, whole_cell, says_no}
+use Rattle.cells.specs.Opening.{opens, are_marks, some_opening, whole_cell, says_no, yes, lowest_no}
 use Rattle.cells.specs.Questions.{marks_right, some_marked}
-use Rattle.cells.proofs.OpeningLaws.{marks_long, marks_low}
+use Rattle.cells.proofs.OpeningLaws.{marks_long, marks_low, none_yes, found_no}
 
 module _ (J : Job) (marks : List ℕ) where
   abbrev above : ℕ → ℕ → Bool
@@ -27,10 +28,11 @@ module _ (J : Job) (marks : List ℕ) where
   low s = leb (get_or marks s 0) 1
 
   -- question 25: another length, a byte above 1, or neither
-  pub other_length : (length marks ≡ size J → ⊥) → false ≡ are_marks J marks
+  pub other_length : (n : ℕ) → n ≡ size J → (length marks ≡ n → ⊥) → eqb (length marks) n ≡ are_marks J marks
   unfolding are_marks
-  other_length other =
-      sym (and_no_left (eqb (length marks) (size J)) (all low (length marks)) (ne_eqb (length marks) (size J) other))
+  other_length n is other =
+      let no = ne_eqb (length marks) n other in
+      no ∙ sym (and_no_left (eqb (length marks) (size J)) (all low (length marks)) (rw is at no))
 
   low_above : all low (length marks) ≡ not (any (above 1) (length marks))
   low_above =
@@ -81,11 +83,22 @@ module _ (J : Job) (marks : List ℕ) where
 
 -- An opening state that says no, by its mark and by the cell that is read.
 module _ (J : Job) (marks : List ℕ) (t : Table) (s : ℕ) where
-  pub not_opening : (get_or marks s 0 ≡ 1 → ⊥) → false ≡ says_no J marks t s
+  pub not_opening : (get_or marks s 0 ≡ 1 → ⊥) → eqb (get_or marks s 0) 1 ≡ says_no J marks t s
   unfolding says_no opens
-  not_opening other = sym (and_no_left (opens marks s) (eqb (whole_cell J t s) 0) (ne_eqb (get_or marks s 0) 1 other))
+  not_opening other =
+      let no = ne_eqb (get_or marks s 0) 1 other in no ∙ sym (and_no_left (opens marks s) (eqb (whole_cell J t s) 0) no)
 
   pub opening_cell :
       get_or marks s 0 ≡ 1 → (c k : ℕ) → k ≡ subformula_count J → c ≡ owner_cell J t s (k - 1) → eqb c 0 ≡ says_no J marks t s
   unfolding says_no opens whole_cell
   opening_cell marked c k all read = simp (eq-eqb (get_or marks s 0) 1 marked, read, all)
+
+-- The state that a search for one that says no finds, where every owner's cell of the whole formula is filled: none is yes.
+module _ (J : Job) (marks : List ℕ) (t : Table) (filled : (s : ℕ) → s < size J → whole_cell J t s ≤ 1) where
+  pub verdict_is :
+      (r : Option ℕ)
+      → IfSome r (λ s. s < size J)
+      → unwrap_or r (size J) ≡ lowest_no J marks t
+      → cond (is_none r) 1 0 ≡ yes J marks t
+  verdict_is None within is = sym (none_yes J marks t filled (omega arith))
+  verdict_is (Some s) within is = sym (found_no J marks t filled (omega arith))

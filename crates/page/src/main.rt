@@ -13,5 +13,5 @@ fn main(rt: HostRuntime) -> io::Result<()> {
     let mut text = [0u8; 25878];
     let n = fill(&mut rt.stdin(), &mut text)?;
     let said = page_output(&argument[..named], &text[..n]);
-    rt.write_all(&said.bytes[..said.length])
+    rt.write_all(said.as_slice())
 }

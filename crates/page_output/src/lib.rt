@@ -1,21 +1,15 @@
 // What the program page prints of its argument and its input: the page of a node's table after finish from fresh, or the two numbers of the refusal.
 #![tactic(auto)]
 
-ghost use Rattle.std.specs.Prelude.{◌≡◌, ◌≤◌, length, take};
+ghost use Rattle.std.specs.Prelude.{◌≡◌};
 ghost use Rattle.page_output.specs.PageOutput.{node_named, page_output};
 ghost use Rattle.page_output.specs.PageSize.{PageSize};
 
-use calls::page::{Paged, page};
-use from_fresh::{finish_fresh, line_one, table_size};
+use calls::page::page;
+use from_fresh::{finish_fresh, table_size};
+use layout::head::head;
+use output::Output;
 use text::decimal::write_line;
-use text::field::{digit, is_digit};
-
-// The bytes to print: the first `length` of these.
-#[derive(Drop)]
-pub struct Output {
-    pub bytes: [u8; 20560],
-    pub length: usize,
-}
 
 // No job has so many nodes.
 const NO_NODE: usize = 255;
@@ -24,43 +18,35 @@ const NO_NODE: usize = 255;
 fn node_named(argument: &[u8]) -> usize
     ensures { result ≡ node_named argument.now }
 {
-    if argument.len() != 1 {
-        return NO_NODE;
+    match argument {
+        [c] if c.is_ascii_digit() => usize::from(*c - b'0'),
+        _ => NO_NODE,
     }
-    let c = argument[0];
-    if !is_digit(c) {
-        return NO_NODE;
-    }
-    digit(c)
 }
 
-// How many bytes the page for a text has, if the text is accepted.
+// How many bytes the page for a text has, if the text is accepted: 80 for each state that line 1 has, and 80 more.
 fn page_size(text: &[u8]) -> usize
     ensures { PageSize text.now result }
 {
-    let h = line_one(text);
-    80 * (h.states + 1)
+    match head(text) {
+        Ok(h) => 80 * (h.states + 1),
+        Err(_) => 0,
+    }
 }
 
-// All that is printed.
-pub fn page_output(argument: &[u8], text: &[u8]) -> Output
-    ensures right { take result.length result.bytes ≡ page_output argument.now text.now }
-    ensures inside { result.length ≤ length result.bytes }
+// All that is printed: the longest page has 80 * (256 + 1) bytes.
+pub fn page_output(argument: &[u8], text: &[u8]) -> Output<20560>
+    ensures { result ≡ page_output argument.now text.now }
 {
     let size = table_size(text);
     let mut cells = [2u8; 65536];
-    finish_fresh(text, &mut cells, size);
+    let _ = finish_fresh(text, &mut cells, size);
     let mut bytes = [0u8; 20560];
-    let told = page(text, &cells[0..size], node_named(argument), &mut bytes);
-    let Paged::Refused(why) = told else {
-        return Output {
-            bytes: bytes,
-            length: page_size(text),
-        };
-    };
-    write_line(&mut bytes, 0, &[why.number as usize, why.line]);
-    Output {
-        bytes: bytes,
-        length: 11,
+    match page(text, &cells[..size], node_named(argument), &mut bytes) {
+        Ok(()) => Output::new(bytes, page_size(text)),
+        Err(why) => {
+            write_line(&mut bytes, 0, &[usize::from(why.number()), why.line()]);
+            Output::new(bytes, 11)
+        }
     }
 }

@@ -1,11 +1,16 @@
 -- The parts of a page as they are written one behind the other, and the lines that they make. Assumes nothing.
 use Prim.Native.Nat.{ℕ, suc, ◌+◌, ◌-◌, ◌*◌, ◌<◌, ◌≤◌}
 use mathlib.Core.Path.{◌≡◌, refl, sym, ap, ap₂, ◌∙◌}
-use mathlib.Core.List.{List, [], ◌∷◌, ◌++◌}
+use mathlib.Core.List.{[], ◌∷◌, ◌++◌}
 use native.Mathlib.Omega.{arith}
 use borrow.Author.Tests.{eq-eqb}
 use lib.ListN.{length, get_or, replicate, length-replicate}
-use lib.Seq.{sets, length-sets}
+use lib.Seq.{sets}
+use borrow.Rule.Slice.PartMut.{put_mid}
+use Rattle.std.proofs.Common.{append_assoc, take, drop}
+use Rattle.std.proofs.lemmas.Slice.{put_mid-paste}
+use Rattle.std.proofs.lemmas.List.Edits.{paste_all, sets-eq}
+use lib.Seq.{get_or-take, get_or-drop}
 use Rattle.law.specs.Lists.{tab, flatten}
 use Rattle.law.proofs.Lists.{tab_first}
 use Rattle.law.proofs.Pieces.{written_behind, Written, written_next, written_end}
@@ -16,14 +21,24 @@ use Rattle.job.specs.Written.{label, IsJob}
 use Rattle.cells.specs.Table.{Table, table_length, index, cell}
 use Rattle.cells.proofs.Formed.{formed_is, cell_low}
 use Rattle.cells.proofs.Index.{index_lt}
-use Rattle.image.specs.Image.{job_of}
-use Rattle.table.specs.Lent.{Ready, IsCell}
-use Rattle.table.proofs.CellLaws.{byte_small}
+use Rattle.image.specs.Denoted.{job_of}
+use Rattle.image.specs.declared.image.Image.{Image}
+use Rattle.image.proofs.ImageLaws.{image_job}
+use Rattle.table.specs.Lent.{Ready}
 use Rattle.page_text.specs.Page.{two_columns, heading, cell_mark, row_front, row_cells, columns_of, filled_line, page_line, page_lines, page}
 use Rattle.page_text.proofs.PageLaws.{heading_length, row_length, line_long}
 
-abbrev pub space : ℕ → Text
-space i = 32 ∷ []
+-- What is written to a part of the page.
+pub part_written :
+    (was now new : Text) (at k : ℕ)
+    → now ≡ new
+    → length new ≡ k
+    → at + k ≤ length was
+    → put_mid at k was now ≡ sets was at new
+part_written was now new at k e long fits =
+    put_mid-paste at k was now new k e refl (sym long)
+    ∙ paste_all was at new k (sym long)
+    ∙ sym (sets-eq new was at (omega (arith, long)) ∙ append_assoc (take at was) new (drop (at + length new) was) ∙ ap (λ (n : ℕ). take at was ++ (new ++ drop (at + n) was)) long)
 
 -- The end of a line, behind so many columns.
 pub end_written :
@@ -81,35 +96,36 @@ module _ (J : Job) (t : Table) (n s : ℕ) where
   abbrev pub cell_of : ℕ → Text
   cell_of k = 32 ∷ cell_mark (cell J t n s k) ∷ []
 
-  run_cell : (first k : ℕ) → first ≡ index J n s 0 → get_or t (first + k) 0 ≡ cell J t n s k
+  run_cell :
+      (first k count : ℕ) → first ≡ index J n s 0 → k < count → get_or (take count (drop first t)) k 0 ≡ cell J t n s k
   unfolding cell index
-  run_cell first k e = ap (λ (i : ℕ). get_or t i 0) (omega (arith, e))
+  run_cell first k count e l =
+      get_or-take count (drop first t) k 0 l ∙ get_or-drop first t k 0 ∙ ap (λ (i : ℕ). get_or t i 0) (omega (arith, e))
 
   -- So many of them are written.
   abbrev pub CellsSoFar : Text → Text → ℕ → ℕ → Type 0
   CellsSoFar was out count k = Written 2 cell_of (80 * s + 95) was out count k
 
   pub cells_turn :
-      (first : ℕ) (was out later : Text) (count k v : ℕ)
+      (first run : ℕ) (was out later : Text) (count k v : ℕ)
       → first ≡ index J n s 0
+      → k < run
       → CellsSoFar was out count k
       → k < count
-      → v ≡ cell_mark (get_or t (first + k) 0)
+      → v ≡ cell_mark (get_or (take run (drop first t)) k 0)
       → later ≡ sets out (80 * s + 95 + 2 * k) (32 ∷ v ∷ [])
       → CellsSoFar was later count (k + 1)
-  cells_turn first was out later count k v e so_far l f w =
+  cells_turn first run was out later count k v e g so_far l f w =
       written_next 2 cell_of (80 * s + 95) was count out k so_far later (80 * s + 95 + 2 * k) l refl refl
-      (w ∙ ap (λ (c : ℕ). sets out (80 * s + 95 + 2 * k) (32 ∷ c ∷ [])) (f ∙ ap cell_mark (run_cell first k e)))
+      (w ∙ ap (λ (c : ℕ). sets out (80 * s + 95 + 2 * k) (32 ∷ c ∷ [])) (f ∙ ap cell_mark (run_cell first k run e g)))
 
   pub cells_over :
-      (was out : Text) (count k : ℕ)
-      → CellsSoFar was out count k
-      → count ≤ k
-      → count ≡ subformula_count J
+      (was out : Text) (k : ℕ)
+      → CellsSoFar was out (subformula_count J) k
+      → subformula_count J ≤ k
       → out ≡ sets was (80 * s + 95) (row_cells J t n s)
   unfolding row_cells
-  cells_over was out count k so_far l e =
-      written_end 2 cell_of (80 * s + 95) was count out k so_far l ∙ ap (λ (m : ℕ). sets was (80 * s + 95) (flatten (tab cell_of m))) e
+  cells_over was out k so_far l = written_end 2 cell_of (80 * s + 95) was (subformula_count J) out k so_far l
 
   -- The line of a state: three numbers, the cells, end.
   pub row_written :
@@ -134,24 +150,16 @@ module _ (J : Job) (t : Table) (n s : ℕ) where
       line_written was four out (row_front J s ++ cells) a (15 + 2 * count) four_is (row_length J t n s ∙ ap (λ (k : ℕ). 15 + 2 * k) (sym count_is)) i
 
 -- A lent table: its cells are 0, 1 or 2, and those of a state lie in it.
-module _ (m : List ℕ) (t : Table) (ready : Ready m t) (n s k : ℕ) (n_in : n < (job_of m).nodes) (s_in : s < size (job_of m)) (k_in : k < subformula_count (job_of m)) where
-  pub run_inside : (first : ℕ) → first ≡ index (job_of m) n s 0 → first + k < length t
+module _ (m : Image) (t : Table) (ready : Ready m t) (n s : ℕ) (n_in : n < (job_of m).nodes) (s_in : s < size (job_of m)) where
+  pub run_inside : (first count : ℕ) → first ≡ index (job_of m) n s 0 → count ≡ subformula_count (job_of m) → first + count ≤ length t
   unfolding index
-  run_inside first e =
-      let low = index_lt (job_of m) n s k n_in s_in k_in in
-      omega (arith, e, low, ready.lent.long)
+  run_inside first count e all =
+      let last = index_lt (job_of m) n s (subformula_count (job_of m) - 1) n_in s_in (omega (arith, (image_job m).subformulas)) in
+      omega (arith, e, last, ready.lent.long)
 
-  -- as a machine's number
-  pub run_small : (first : ℕ) → first ≡ index (job_of m) n s 0 → first + k ≤ 73760
-  unfolding index
-  run_small first e =
-      let here : IsCell (job_of m) n s k = record { node_in = n_in; state_in = s_in; subformula_in = k_in } in
-      let small = byte_small (job_of m) ready.lent.image.is_job n s k here (size (job_of m)) refl (subformula_count (job_of m)) refl in
-      omega (arith, e, small)
-
-  pub run_low : (first : ℕ) → first ≡ index (job_of m) n s 0 → get_or t (first + k) 0 ≤ 2
-  run_low first e =
-      rw (run_cell (job_of m) t n s first k e)
+  pub run_low : (first k count : ℕ) → first ≡ index (job_of m) n s 0 → k < count → get_or (take count (drop first t)) k 0 ≤ 2
+  run_low first k count e l =
+      rw (run_cell (job_of m) t n s first k count e l)
       (cell_low (job_of m) t (formed_is (job_of m) t (eq-eqb (length t) (table_length (job_of m)) ready.lent.long) ready.right) n s k)
 
 -- The lines, one behind the other: behind the heading, line s + 1 is that of state s.
@@ -183,15 +191,3 @@ module _ (J : Job) (t : Table) (n : ℕ) where
       let long = line_long J t n is 0 in
       written_behind was first out top (flatten (tab row_at (size J))) 0 80 first_is rows (omega arith)
       ∙ ap (λ ls. sets was 0 (flatten ls)) (sym (tab_first (page_line J t n) (size J)) ∙ ap (tab (page_line J t n)) more)
-
--- There is room for the line of each state.
-pub row_fits :
-    (was first out : Text) (width count s : ℕ)
-    → first ≡ sets was 0 (filled_line (heading width))
-    → length out ≡ length first
-    → 80 * (count + 1) ≤ length was
-    → s < count
-    → 80 * s + 160 ≤ length out
-row_fits was first out width count s w same room l =
-    let long : length first ≡ length was = ap length w ∙ length-sets was 0 (filled_line (heading width)) in
-    omega arith

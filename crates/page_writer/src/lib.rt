@@ -7,11 +7,11 @@ ghost use Rattle.std.specs.Prelude.{◌≡◌, [], ◌∷◌, ◌++◌, suc, ◌
 ghost use Rattle.std.proofs.lemmas.List.Edits.{sets};
 ghost use Rattle.law.specs.Lists.{tab, flatten};
 ghost use Rattle.job.specs.Job.{size};
-ghost use Rattle.image.specs.Image.{job_of};
+ghost use Rattle.image.specs.Denoted.{job_of};
 ghost use Rattle.table.specs.Lent.{Ready};
 ghost use Rattle.page_text.specs.Page.{two_columns, heading, cell_mark, row_cells, filled_line, page_line, page};
 
-use image::image::{Image, label, owner, states, subformulas};
+use image::image::Image;
 use table::cell::cell_at;
 use text::decimal::{digit_column, write_field};
 
@@ -20,9 +20,7 @@ fn write_spaces(out: &mut [u8], at: usize, count: usize)
     requires { at + count ≤ length out.old }
     ensures { out.new ≡ sets out.old at (replicate count 32) }
 {
-    for i in 0..count {
-        out[at + i] = 32;
-    }
+    out[at..at + count].fill(b' ');
 }
 
 // Two bytes, as each subformula takes them.
@@ -40,7 +38,7 @@ fn end_line(out: &mut [u8], start: usize, columns: usize)
     ensures { out.new ≡ sets out.old (start + columns) (replicate (79 - columns) 32 ++ (10 ∷ [])) }
 {
     write_spaces(out, start + columns, 79 - columns);
-    out[start + 79] = 10;
+    out[start + 79] = b'\n';
 }
 
 // The subformula numbers, two columns each.
@@ -64,14 +62,15 @@ fn write_heading(out: &mut [u8], count: usize)
 }
 
 // What stands on paper for a cell.
+#[tactic(auto, unfolding(page_text::specs::Page::cell_mark, cells::specs::Table::is_empty))]
 fn mark(cell: u8) -> u8
     requires { cell ≤ 2 }
     ensures { result ≡ cell_mark cell }
 {
-    if cell == 2 {
-        return 46;
+    match cell {
+        2 => b'.',
+        _ => b'0' + cell,
     }
-    48 + cell
 }
 
 // The cells of a node at a state, two columns each. They are one run of the table.
@@ -81,9 +80,8 @@ fn write_cells(m: &Image, table: &[u8], n: usize, s: usize, out: &mut [u8])
     ensures { out.new ≡ sets out.old (80 * s + 95) (row_cells (job_of m.now) table.now n s) }
 {
     let first = cell_at(m, n, s, 0);
-    let count = subformulas(m);
-    for k in 0..count {
-        write_two(out, 80 * s + 95 + 2 * k, 32, mark(table[first + k]));
+    for (k, &cell) in table[first..first + m.subformulas()].iter().enumerate() {
+        write_two(out, 80 * s + 95 + 2 * k, b' ', mark(cell));
     }
 }
 
@@ -95,10 +93,10 @@ fn write_row(m: &Image, table: &[u8], n: usize, s: usize, out: &mut [u8])
         ≡ sets out.old (80 * s + 80) (page_line (job_of m.now) table.now n (suc s)) }
 {
     write_field(out, 80 * s + 80, s);
-    write_field(out, 80 * s + 85, owner(m, s));
-    write_field(out, 80 * s + 90, label(m, s) as usize);
+    write_field(out, 80 * s + 85, m.owner(s));
+    write_field(out, 80 * s + 90, m.label(s) as usize);
     write_cells(m, table, n, s, out);
-    end_line(out, 80 * s + 80, 15 + 2 * subformulas(m));
+    end_line(out, 80 * s + 80, 15 + 2 * m.subformulas());
 }
 
 // All lines, one behind the other.
@@ -107,9 +105,8 @@ pub fn write_page(m: &Image, table: &[u8], n: usize, out: &mut [u8])
     requires n_bound { (n < (job_of m.now).nodes) × (80 * (size (job_of m.now) + 1) ≤ length out.old) }
     ensures { out.new ≡ sets out.old 0 (page (job_of m.now) table.now n) }
 {
-    write_heading(out, subformulas(m));
-    let count = states(m);
-    for s in 0..count {
+    write_heading(out, m.subformulas());
+    for s in 0..m.states() {
         write_row(m, table, n, s, out);
     }
 }

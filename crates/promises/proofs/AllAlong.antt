@@ -17,16 +17,15 @@ use Rattle.law.proofs.Bounded.{by_equal}
 use Rattle.text.specs.Field.{Text}
 use Rattle.job.specs.Job.{Job, Quantifier, for_all, exists, decode, size, subformula_count, subformula}
 use Rattle.job.specs.Formula.{atomic, unary, binary, parsed, fields, is_formula}
-use Rattle.job.specs.Rule.{rule_of, rule_at, temporal, closed_value, quantifier, IsSets, InRange}
+use Rattle.job.specs.Rule.{global, rule_of, rule_at, temporal, closed_value, quantifier, IsSets, InRange}
 use Rattle.job.specs.Answer.{accepted}
 use Rattle.job.specs.Questions.{of_lines, formula_ok, formula_lines}
 use Rattle.job.specs.Layout.{states, edges, subformulas, kind_field, left_field, right_field}
 use Rattle.job.specs.Written.{IsJob}
 use Rattle.job.specs.declared.subformula.Subformula.{Subformula}
-use Rattle.job.specs.declared.subformula.Subformula.TheVariants.{Atom, Not, And, Ax, Ex, Au, Eu, Eg, Ag}
-use Rattle.job.specs.declared.subformula.Parsed.TheVariants.{Formula, Malformed}
 use Rattle.job.specs.declared.rule.Condition.TheVariants.{Always, Fails}
-use Rattle.job.specs.declared.rule.Rule.TheVariants.{Sets}
+use Rattle.job.specs.declared.subformula.Subformula.TheVariants.{Atom, Not, And, Ax, Ex, Au, Eu, Eg, Ag}
+use Rattle.std.proofs.Common.{Some, None}
 use Rattle.job.proofs.Exact.{decode_is_job}
 use Rattle.job.proofs.RuleLaws.{not_sets}
 use Rattle.ctl.specs.Truth.{Walk, Throughout, OnWalks, meaning, Holds}
@@ -112,7 +111,7 @@ module _ (J : Job) (n : ℕ) (at : ℕ → ℕ → ℕ) (low : (j s : ℕ) → a
 
   all_along_sets :
       (after : ℕ → ℕ)
-      → ((s : ℕ) → s < size J → after s ≡ get_or (column J n at k (Sets all (Fails a) Always 0)) s 2)
+      → ((s : ℕ) → s < size J → after s ≡ get_or (column J n at k (global all a)) s 2)
       → FilledAllAlong J n own (at a) q after
   unfolding column
   all_along_sets after is =
@@ -152,7 +151,7 @@ module _ (l : Loan) (x : Text) (t u : Table) (given : List ℕ) where
       (n k a : ℕ) (all : Bool)
       → Happens l x (step n) t (accepted given) u
       → k < subformula_count J
-      → rule_at J k ≡ Sets all (Fails a) Always 0
+      → rule_at J k ≡ global all a
       → FilledAllAlong J n (λ s. cell J t n s k) (λ s. cell J u n s a) (quantifier all) (λ s. cell J u n s k)
   unfolding ruled left InRange
   happens_along n k a all happens below rule =
@@ -167,8 +166,8 @@ module _ (l : Loan) (x : Text) (t u : Table) (given : List ℕ) where
       (λ e. rw (e, after) (cell_low J (step_table J n t) (step_table_formed J t formed n) n s j))
       (λ e. rw e (cell_low J t formed n s j)) in
       let smaller = rw rule at ((decode_is_job x (taken_accepted (step n) x t taken)).operands k below) in
-      let sets : IsSets (rule_at J k) = record { all = all; start = Fails a; grow = Always; value = 0; is = rule } in
-      let ruled_is : (s : ℕ) → s < size J → cell J u n s k ≡ get_or (column J n at k (Sets all (Fails a) Always 0)) s 2 =
+      let sets : IsSets (rule_at J k) = record { growth = record { all = all; start = Fails a; grow = Always; value = 0 }; is = rule } in
+      let ruled_is : (s : ℕ) → s < size J → cell J u n s k ≡ get_or (column J n at k (global all a)) s 2 =
       λ s h.
       sets_ruled J n k t u given formed (happens_filled l x n t u given happens) sets (omega arith) below s h
       ∙ ap (λ r. get_or (column J n at k r) s 2) rule in
@@ -221,7 +220,7 @@ module _ (l : Loan) (x : Text) (t u : Table) (given : List ℕ) where
       })
 
 -- "Question 8 admits 1 to 9": by the nine kinds.
-formula_if : (c : Bool) (f : Subformula) → is_formula (cond c (Formula f) Malformed) ≡ c
+formula_if : (c : Bool) (f : Subformula) → is_formula (cond c (Some f) None) ≡ c
 unfolding is_formula
 formula_if true f = refl
 formula_if false f = refl

@@ -1,7 +1,7 @@
 -- What the contract of a call promises is what is defined, no less and no more: the definitions' answer and table are a way for it to
 -- happen, and the only one. Assumes nothing.
 use Prim.Native.Nat.{ℕ, ◌+◌, ◌≤◌}
-use mathlib.Core.Path.{◌≡◌, refl, sym, ◌∙◌, ap, subst}
+use mathlib.Core.Path.{◌≡◌, refl, sym, ◌∙◌, ap, ap₂, subst}
 use mathlib.Core.List.{List, [], ◌∷◌}
 use lib.ListN.{length, take, replicate, length-replicate}
 use lib.Seq.{take-length}
@@ -16,32 +16,25 @@ use Rattle.job.specs.Question.{Question, refusal}
 use Rattle.job.specs.Questions.{text_questions}
 use Rattle.job.specs.Read.{read_told, read_answer, line_of as part_of, header}
 use Rattle.job.specs.declared.reading.Header as head
-use Rattle.job.specs.declared.reading.Refusal.{Refusal}
-use Rattle.job.specs.declared.reading.Reading as reading
+use Rattle.job.specs.declared.refusal.Refusal.{Refusal}
+use Rattle.job.specs.Refused.{number_of, line_of_refusal}
+use Rattle.std.proofs.Common.{Result, Ok, Err}
+use Rattle.promises.proofs.Expressed.{Expressed, call_expressed, text_expressed, rule_expressed, refusal_expressed}
+use Rattle.calls.specs.declared.offer.Message.{Message}
 use Rattle.cells.specs.Table.{Table, owner_cell, filled, empty_cells}
 use Rattle.cells.specs.Close.{smallest_open, close_table}
 use Rattle.cells.specs.Finish as finishing
 use Rattle.job.proofs.QuestionLaws.{by_refusal, answered_none, answered_some, accepted_own, afterwards_none, afterwards_some}
 use Rattle.cells.proofs.Finish.{finish_rounds_lem}
 use Rattle.cells.specs.Calls.{Call, fresh, step, offer, accept, look, close, finish, page, questions, width, told, left, answer, after}
-use Rattle.calls.specs.declared.fresh.Cleared as cleared
 use Rattle.calls.specs.Told.{fresh_told, step_told, offer_told, accept_told, look_told, close_told, finish_told, finish_rounds, page_told}
-use Rattle.calls.specs.declared.step.Stepped as stepped
-use Rattle.calls.specs.declared.offer.Offered as offered
-use Rattle.calls.specs.declared.accept.Delivered as delivered
-use Rattle.calls.specs.declared.look.Looked as looked
 use Rattle.closing.specs.declared.Closing as closing
-use Rattle.calls.specs.declared.close.Closed as closed
 use Rattle.rounds.specs.declared.finish.Outcome as outcome
-use Rattle.calls.specs.declared.finish.Finished as finished
-use Rattle.calls.specs.declared.page.Paged as paged
 use Rattle.page_text.specs.PageCall.{page_buffer}
 use Rattle.page_output.specs.PageOutput.{page_output}
 use Rattle.verdict_line.specs.VerdictLine.{verdict_line}
 use Rattle.rule_text.specs.RuleCall.{rule_lines, rule_questions, rule_answer, rule_buffer}
 use Rattle.rule_call.specs.Ruled.{ruled_told}
-use Rattle.rule_call.specs.declared.rule.Ruled.{Ruled}
-use Rattle.rule_call.specs.declared.rule.Ruled.TheVariants as ruled
 use Rattle.rule_output.specs.RuleOutput.{rule_output}
 use Rattle.promises.specs.CallContracts.{Loan, Pages, Happens, Reads, HandsBack, Prints, Rules, PrintsRule, PrintsPage, MayHappen}
 
@@ -71,73 +64,69 @@ module _ (l : Loan) (x : Text) where
     same ∙ page_left t n b a w pages ∙ ap (λ k. after (page n k) x t) long,
   )
 
-  -- a case of a call's enum for its answer: `taken` says what the call tells where it is accepted, `turned` a refusal
-  module _ {Z : Type 0} (says : Z → Answer) (c : Call) (t : Table) where
-    enum_case :
-        (taken : Z) (turned : Refusal → Z)
-        → says taken ≡ accepted (told c (decode x) t)
-        → ((why : Refusal) → says (turned why) ≡ refused why.number why.line (width c))
-        → (z : Z) × (says z ≡ answer c x t)
+  -- a result of a call for its answer: `own` is what the call has of its own where it is accepted
+  module _ {A : Type 0} (says : Result A Refusal → Answer) (c : Call) (t : Table) where
+    result_case :
+        (own : A)
+        → says (Ok own) ≡ accepted (told c (decode x) t)
+        → ((why : Refusal) → says (Err why) ≡ refused (number_of why) (line_of_refusal why) (width c))
+        → (z : Result A Refusal) × (says z ≡ answer c x t)
     unfolding answer
-    enum_case taken turned taken_says turned_says =
+    result_case own own_says why_says =
         let qs = questions c x t in
-        let own = told c (decode x) t in
         by_refusal qs
-        (λ e. (taken, taken_says ∙ sym (answered_none qs (width c) own e)))
+        (λ e. (Ok own, own_says ∙ sym (answered_none qs (width c) (told c (decode x) t) e)))
         (λ q e.
-        let why : Refusal = record { number = q.number; line = q.line } in
-        (turned why, turned_says why ∙ sym (answered_some qs (width c) own q e)))
+        let (why, number_is, line_is) = refusal_expressed qs q (call_expressed c x t) e in
+        (Err why, why_says why ∙ ap₂ (λ n l. refused n l (width c)) number_is line_is ∙ sym (answered_some qs (width c) (told c (decode x) t) q e)))
 
   module _ (t : Table) where
-    fresh_case : (z : cleared.Cleared) × (fresh_told z ≡ answer fresh x t)
+    fresh_case : (z : Result Unit Refusal) × (fresh_told z ≡ answer fresh x t)
     unfolding fresh_told told width
-    fresh_case = enum_case fresh_told fresh t cleared.TheVariants.Accepted cleared.TheVariants.Refused refl (λ why. refl)
+    fresh_case = result_case fresh_told fresh t tt refl (λ why. refl)
 
-    step_case : (n : ℕ) → (z : stepped.Stepped) × (step_told z ≡ answer (step n) x t)
+    step_case : (n : ℕ) → (z : Result ℕ Refusal) × (step_told z ≡ answer (step n) x t)
     unfolding step_told told width
-    step_case n = enum_case step_told (step n) t (stepped.TheVariants.Accepted _) stepped.TheVariants.Refused refl (λ why. refl)
+    step_case n = result_case step_told (step n) t _ refl (λ why. refl)
 
-    offer_case : (s k : ℕ) → (z : offered.Offered) × (offer_told z ≡ answer (offer s k) x t)
+    offer_case : (s k : ℕ) → (z : Result Message Refusal) × (offer_told z ≡ answer (offer s k) x t)
     unfolding offer_told told width
     offer_case s k =
-        enum_case offer_told (offer s k) t
-        (offered.TheVariants.Accepted (record { state = s; subformula = k; value = owner_cell (decode x) t s k })) offered.TheVariants.Refused refl
-        (λ why. refl)
+        result_case offer_told (offer s k) t (record { state = s; subformula = k; value = owner_cell (decode x) t s k }) refl (λ why. refl)
 
-    accept_case : (n s k v : ℕ) → (z : delivered.Delivered) × (accept_told z ≡ answer (accept n s k v) x t)
+    accept_case : (n s k v : ℕ) → (z : Result ℕ Refusal) × (accept_told z ≡ answer (accept n s k v) x t)
     unfolding accept_told told width
-    accept_case n s k v =
-        enum_case accept_told (accept n s k v) t (delivered.TheVariants.Accepted _) delivered.TheVariants.Refused refl (λ why. refl)
+    accept_case n s k v = result_case accept_told (accept n s k v) t _ refl (λ why. refl)
 
-    look_case : (n s k : ℕ) → (z : looked.Looked) × (look_told z ≡ answer (look n s k) x t)
+    look_case : (n s k : ℕ) → (z : Result ℕ Refusal) × (look_told z ≡ answer (look n s k) x t)
     unfolding look_told told width
-    look_case n s k = enum_case look_told (look n s k) t (looked.TheVariants.Accepted _) looked.TheVariants.Refused refl (λ why. refl)
+    look_case n s k = result_case look_told (look n s k) t _ refl (λ why. refl)
 
-    close_case : (z : closed.Closed) × (close_told z ≡ answer close x t)
+    close_case : (z : Result closing.Closing Refusal) × (close_told z ≡ answer close x t)
     unfolding close_told told width
     close_case =
         let own : closing.Closing = record { subformula = smallest_open (decode x) t; filled = filled t (close_table (decode x) t) } in
-        enum_case close_told close t (closed.TheVariants.Accepted own) closed.TheVariants.Refused refl (λ why. refl)
+        result_case close_told close t own refl (λ why. refl)
 
-    finish_case : (z : finished.Finished) × (finish_told z ≡ answer finish x t)
+    finish_case : (z : Result outcome.Outcome Refusal) × (finish_told z ≡ answer finish x t)
     unfolding finish_told told width
     finish_case =
         let done = finishing.finish (decode x) t in
         let own : outcome.Outcome = record { verdict = finishing.verdict (decode x) done.table; rounds = done.rounds; cells = done.cells } in
-        enum_case finish_told finish t (finished.TheVariants.Accepted own) finished.TheVariants.Refused refl (λ why. refl)
+        result_case finish_told finish t own refl (λ why. refl)
 
-    page_case : (n room : ℕ) → (z : paged.Paged) × (page_told z ≡ answer (page n room) x t)
+    page_case : (n room : ℕ) → (z : Result Unit Refusal) × (page_told z ≡ answer (page n room) x t)
     unfolding page_told told width
-    page_case n room = enum_case page_told (page n room) t paged.TheVariants.Accepted paged.TheVariants.Refused refl (λ why. refl)
+    page_case n room = result_case page_told (page n room) t tt refl (λ why. refl)
 
     -- its rounds are those of the definition, or 0
-    finish_few : (z : finished.Finished) → finish_told z ≡ answer finish x t → finish_rounds z ≤ empty_cells (decode x) t + 1
+    finish_few : (z : Result outcome.Outcome Refusal) → finish_told z ≡ answer finish x t → finish_rounds z ≤ empty_cells (decode x) t + 1
     unfolding finish_told finish_rounds answer told
-    finish_few (finished.TheVariants.Accepted own) is =
+    finish_few (Ok own) is =
         let same = accepted_own (questions finish x t) (width finish) (told finish (decode x) t) _ is in
         let rounds : own.rounds ≡ (finishing.finish (decode x) t).rounds = cc in
         omega (arith, finish_rounds_lem (decode x) t)
-    finish_few (finished.TheVariants.Refused why) is = omega arith
+    finish_few (Err why) is = omega arith
 
   -- offer, look and page leave the table
   stays : (c : Call) (t : Table) → left c (decode x) t ≡ t → after c x t ≡ t
@@ -190,12 +179,12 @@ module _ (l : Loan) (x : Text) where
   defined_rules b =
       let qs = rule_questions x b in
       let own = length (rule_lines x) ∷ [] in
-      let answered : (z : Ruled) × (ruled_told z ≡ rule_answer x b) =
+      let answered : (z : Result ℕ Refusal) × (ruled_told z ≡ rule_answer x b) =
       by_refusal qs
-      (λ e. (ruled.Accepted (length (rule_lines x)), sym (answered_none qs 1 own e)))
+      (λ e. (Ok (length (rule_lines x)), sym (answered_none qs 1 own e)))
       (λ q e.
-      let why : Refusal = record { number = q.number; line = q.line } in
-      (ruled.Refused why, sym (answered_some qs 1 own q e))) in
+      let (why, number_is, line_is) = refusal_expressed qs q (rule_expressed x b) e in
+      (Err why, ap₂ (λ n l. refused n l 1) number_is line_is ∙ sym (answered_some qs 1 own q e))) in
       let (z, is) = answered in
       (z, is, (is, refl))
 
@@ -208,15 +197,16 @@ module _ (l : Loan) (x : Text) where
   unfolding Reads read_answer read_told header
   defined_reads = let (z, is) = by_refusal (text_questions x) as_accepted as_refused_lem in (z, is, is)
     where
-      as_accepted : refusal (text_questions x) ≡ opt.none → (z : reading.Reading) × (read_told z ≡ read_answer x)
+      as_accepted : refusal (text_questions x) ≡ opt.none → (z : Result head.Header Refusal) × (read_told z ≡ read_answer x)
       as_accepted e =
           let own : head.Header =
           record { states = layout.states x; edges = layout.edges x; subformulas = layout.subformulas x; nodes = layout.nodes x } in
-          (reading.TheVariants.Accepted own, sym (answered_none (text_questions x) 4 (header x) e))
+          (Ok own, sym (answered_none (text_questions x) 4 (header x) e))
 
-      as_refused_lem : (q : Question) → refusal (text_questions x) ≡ opt.some q → (z : reading.Reading) × (read_told z ≡ read_answer x)
+      as_refused_lem : (q : Question) → refusal (text_questions x) ≡ opt.some q → (z : Result head.Header Refusal) × (read_told z ≡ read_answer x)
       as_refused_lem q e =
-          (reading.TheVariants.Refused (record { number = q.number; line = q.line }), sym (answered_some (text_questions x) 4 (header x) q e))
+          let (why, number_is, line_is) = refusal_expressed (text_questions x) q (text_expressed x) e in
+          (Err why, ap₂ (λ n l. refused n l 4) number_is line_is ∙ sym (answered_some (text_questions x) 4 (header x) q e))
 
   pub back_defined : (n : ℕ) (part : List ℕ) → HandsBack l x n part → part ≡ part_of x n
   unfolding HandsBack
@@ -228,24 +218,19 @@ module _ (l : Loan) (x : Text) where
 
   pub prints_rule_defined : (said : List ℕ) → PrintsRule l x said → said ≡ rule_output x
   unfolding PrintsRule
-  prints_rule_defined said (r, is, (right, inside)) = sym is ∙ right
+  prints_rule_defined said told = told
 
   defined_prints_rule : PrintsRule l x (rule_output x)
   unfolding PrintsRule
-  defined_prints_rule =
-      let all : take (length (rule_output x)) (rule_output x) ≡ rule_output x = take-length (rule_output x) in
-      (record { bytes = rule_output x; length = length (rule_output x) }, all, (all, le_refl (length (rule_output x))))
+  defined_prints_rule = refl
 
   pub prints_page_defined : (argument said : List ℕ) → PrintsPage l x argument said → said ≡ page_output argument x
   unfolding PrintsPage
-  prints_page_defined argument said (r, is, (right, inside)) = sym is ∙ right
+  prints_page_defined argument said told = told
 
   defined_prints_page : (argument : List ℕ) → PrintsPage l x argument (page_output argument x)
   unfolding PrintsPage
-  defined_prints_page argument =
-      let out = page_output argument x in
-      let all : take (length out) out ≡ out = take-length out in
-      (record { bytes = out; length = length out }, all, (all, le_refl (length out)))
+  defined_prints_page argument = refl
 
   pub may_happen : MayHappen l x
   unfolding HandsBack Prints

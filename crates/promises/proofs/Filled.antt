@@ -116,13 +116,13 @@ happens_filled l x n t u own happens =
 -- fragment in neither.
 module _
     (J : Job) (n k : ℕ) (t u : Table) (own : List ℕ) (formed : Formed J t) (done : FilledByRules J n t own u)
-    (sets : IsSets (rule_at J k)) (small : sets.value ≤ 1) (under : k < subformula_count J) (s : ℕ) (l : s < size J)
+    (sets : IsSets (rule_at J k)) (small : sets.growth.value ≤ 1) (under : k < subformula_count J) (s : ℕ) (l : s < size J)
   where
     abbrev at : ℕ → ℕ → ℕ
     at j r = cell J (cond (ltb j k) u t) n r j
 
     abbrev R : SetRule
-    R = set_rule (quantifier sets.all) (known at sets.start) (known at sets.grow) sets.value
+    R = set_rule (quantifier sets.growth.all) (known at sets.growth.start) (known at sets.growth.grow) sets.growth.value
 
     own_cell : at k s ≡ cell J t n s k
     own_cell = rw (le-ltb k k (le_refl k)) refl

@@ -16,7 +16,8 @@ use Rattle.cells.specs.Calls.{finish, width, answer}
 use Rattle.cells.proofs.Sound.{Sound, fresh_table_sound}
 use Rattle.cells.proofs.CallLaws.{text_refused}
 use Rattle.job.proofs.QuestionLaws.{by_refusal, answered_some}
-use Rattle.text.proofs.Line.{numbers_at, reads_numbers, line_reads}
+use Rattle.text.specs.Fields.{numbers_at}
+use Rattle.text.proofs.Line.{reads_numbers, line_reads}
 use Rattle.verdict_line.specs.VerdictLine.{verdict_line}
 use Rattle.verdict_line.proofs.ShortLaws.{answer_short}
 use Rattle.promises.specs.CallContracts.{Loan, Prints}

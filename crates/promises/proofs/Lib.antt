@@ -1,3 +1,4 @@
+pub mod Expressed
 pub mod Contracts
 pub mod Calls
 pub mod Reading

@@ -1,34 +1,26 @@
 -- The contracts of the calls, of rule and of what `verdict`, `rule` and `page` print, as statements about what is passed and what comes of it.
 -- `Learnt` of a function is what its `ensures` clauses promise a caller, `Asked` what its `requires` clauses ask, as the toolchain reads them off the
 -- source: of the lifetimes, the arguments, the result, and the arguments at exit. Assumes nothing.
-use Rattle.std.specs.Prelude.{ℕ, ◌≡◌, List, length, take}
+use Rattle.std.specs.Prelude.{ℕ, ◌≡◌, List, length, Result}
 use contract.Lifetimes.{Lfts}
 use denote.Ref.{Bor, MutBor, at_last, as_bor}
 use Rattle.text.specs.Field.{Text}
 use Rattle.job.specs.Answer.{Answer}
 use Rattle.job.specs.Read.{read_told, read_answer, line_of}
-use Rattle.job.specs.declared.reading.Reading.{Reading}
+use Rattle.job.specs.declared.reading.Header.{Header}
+use Rattle.job.specs.declared.refusal.Refusal.{Refusal}
 use Rattle.cells.specs.Table.{Table}
 use Rattle.cells.specs.Calls.{Call, fresh, step, offer, accept, look, close, finish, page, answer, after}
-use Rattle.calls.specs.declared.fresh.Cleared.{Cleared}
 use Rattle.calls.specs.Told.{fresh_told, step_told, offer_told, accept_told, look_told, close_told, finish_told, page_told}
-use Rattle.calls.specs.declared.step.Stepped.{Stepped}
 use Rattle.calls.specs.declared.offer.Message.{Message}
-use Rattle.calls.specs.declared.offer.Offered.{Offered}
-use Rattle.calls.specs.declared.accept.Delivered.{Delivered}
-use Rattle.calls.specs.declared.look.Looked.{Looked}
-use Rattle.calls.specs.declared.close.Closed.{Closed}
-use Rattle.calls.specs.declared.finish.Finished.{Finished}
-use Rattle.calls.specs.declared.page.Paged.{Paged}
+use Rattle.closing.specs.declared.Closing.{Closing}
+use Rattle.rounds.specs.declared.finish.Outcome.{Outcome}
 use Rattle.page_text.specs.PageCall.{page_buffer}
 use Rattle.page_output.specs.PageOutput.{page_output}
-use Rattle.page_output.specs.declared.Output as page_printed
 use Rattle.verdict_line.specs.VerdictLine.{verdict_line}
 use Rattle.rule_text.specs.RuleCall.{rule_answer, rule_buffer}
 use Rattle.rule_call.specs.Ruled.{ruled_told}
-use Rattle.rule_call.specs.declared.rule.Ruled.{Ruled}
 use Rattle.rule_output.specs.RuleOutput.{rule_output}
-use Rattle.rule_output.specs.declared.Output.{Output}
 use Rattle.calls.proofs.read.read.Reads as reading
 use Rattle.calls.proofs.line.line.Reads as lining
 use Rattle.calls.proofs.fresh.fresh.Reads as clearing
@@ -80,7 +72,7 @@ module _ (l : Loan) (x : Text) where
   -- page with text x, table t, node n and buffer b may answer a and leave the buffer w. The table can only be read.
   unfoldable pub Pages : Table → ℕ → List ℕ → Answer → List ℕ → Type 0
   Pages t n b a w =
-      (r : Paged)
+      (r : Result Unit Refusal)
       × (page_told r ≡ a)
       × paging.Learnt l.lifetimes (text, (table_read t, (n, (buffer b, tt)))) r (text, (table_read t, (n, (buffer w, tt))))
 
@@ -88,41 +80,41 @@ module _ (l : Loan) (x : Text) where
   -- look and page are lent can only be read, so it stays; page writes a buffer of so many bytes, of any content.
   unfoldable pub Happens : Call → Table → Answer → Table → Type 0
   Happens fresh t a u =
-      (r : Cleared)
+      (r : Result Unit Refusal)
       × (fresh_told r ≡ a)
       × clearing.Learnt two (text, (table t, tt)) r (text, (table u, tt))
   Happens (step n) t a u =
-      (r : Stepped)
+      (r : Result ℕ Refusal)
       × (step_told r ≡ a)
       × stepping.Learnt two (text, (table t, (n, tt))) r (text, (table u, (n, tt)))
   Happens (offer s k) t a u =
-      (r : Offered)
+      (r : Result Message Refusal)
       × (offer_told r ≡ a)
       × (u ≡ t)
       × offering.Learnt two (text, (table_read t, (s, (k, tt)))) r (text, (table_read t, (s, (k, tt))))
   Happens (accept n s k v) t a u =
       let m : Message = record { state = s; subformula = k; value = v } in
-      (r : Delivered)
+      (r : Result ℕ Refusal)
       × (accept_told r ≡ a)
       × accepting.Learnt two (text, (table t, (n, (m, tt)))) r (text, (table u, (n, (m, tt))))
   Happens (look n s k) t a u =
-      (r : Looked)
+      (r : Result ℕ Refusal)
       × (look_told r ≡ a)
       × (u ≡ t)
       × looking.Learnt two (text, (table_read t, (n, (s, (k, tt))))) r (text, (table_read t, (n, (s, (k, tt)))))
   Happens close t a u =
-      (r : Closed)
+      (r : Result Closing Refusal)
       × (close_told r ≡ a)
       × closing.Learnt two (text, (table t, tt)) r (text, (table u, tt))
   Happens finish t a u =
-      (r : Finished)
+      (r : Result Outcome Refusal)
       × (finish_told r ≡ a)
       × finishing.Learnt two (text, (table t, tt)) r (text, (table u, tt))
   Happens (page n room) t a u = (b : List ℕ) × (w : List ℕ) × (length b ≡ room) × (u ≡ t) × Pages t n b a w
 
   -- read may answer a, line n may hand back this part, and verdict may print these bytes
   unfoldable pub Reads : Answer → Type 0
-  Reads a = (r : Reading) × (read_told r ≡ a) × reading.Learnt one (text, tt) r (text, tt)
+  Reads a = (r : Result Header Refusal) × (read_told r ≡ a) × reading.Learnt one (text, tt) r (text, tt)
 
   unfoldable pub HandsBack : ℕ → List ℕ → Type 0
   HandsBack n part =
@@ -134,23 +126,19 @@ module _ (l : Loan) (x : Text) where
   -- rule with rule text x and the buffer b may answer a and leave the buffer u
   unfoldable pub Rules : List ℕ → Answer → List ℕ → Type 0
   Rules b a u =
-      (r : Ruled)
+      (r : Result ℕ Refusal)
       × (ruled_told r ≡ a)
       × ruling.Learnt two (text, (buffer b, tt)) r (text, (buffer u, tt))
 
   -- the program rule may print these bytes of its input
   unfoldable pub PrintsRule : List ℕ → Type 0
   PrintsRule said =
-      (r : Output)
-      × (take r.length r.bytes ≡ said)
-      × outputting.Learnt one (text, tt) r (text, tt)
+      outputting.Learnt one (text, tt) said (text, tt)
 
   -- the program page may print these bytes of its argument, which is lent as a buffer is, and its input, x
   unfoldable pub PrintsPage : List ℕ → List ℕ → Type 0
   PrintsPage argument said =
-      (r : page_printed.Output)
-      × (take r.length r.bytes ≡ said)
-      × printing_page.Learnt two (buffer_read argument, (text, tt)) r (buffer_read argument, (text, tt))
+      printing_page.Learnt two (buffer_read argument, (text, tt)) said (buffer_read argument, (text, tt))
 
 -- Whatever is lent, what is defined may happen.
 pub record MayHappen (l : Loan) (x : Text) : Type 0 where

@@ -1,6 +1,6 @@
 -- Request (iv), one walk over the edge lines. The words of it that `demands/proofs/Demands.antt` uses; the pass itself is
 -- `edge_pass/specs/EdgePass.antt`. Assumes nothing.
-use Rattle.std.specs.Prelude.{ℕ, ◌+◌, ◌*◌, ◌≡◌, cond, List, [], ◌∷◌, ◌++◌, length, take}
+use Rattle.std.specs.Prelude.{ℕ, ◌+◌, ◌*◌, ◌≡◌, cond, List, [], ◌∷◌, ◌++◌, length, take, map}
 use Prim.Native.String.{String}
 use Rattle.std.proofs.Math.Option as opt
 use Rattle.text.specs.Field.{Text}
@@ -45,7 +45,7 @@ walked w =
     record {
       job = w.job;
       order = o.states ∷ o.lines ∷ o.right ∷ o.source ∷ o.target ∷ [];
-      marks = take (length w.marks) k.starts;
+      marks = map (λ b. cond b 1 0) (take (length w.marks) k.starts);
       six = told (question6 k);
       seven = told (question7 k);
     }

@@ -17,7 +17,9 @@ use Rattle.cells.specs.Questions.{table_size, table_cells, node_below}
 use Rattle.cells.specs.Calls.{Call, own_questions, node_read}
 use Rattle.cells.proofs.CallLaws.{numbers_in, read_below}
 use Rattle.cells.proofs.FragmentLaws.{border_inside}
-use Rattle.image.specs.Image.{IsImage, job_of}
+use Rattle.image.specs.Denoted.{job_of}
+use Rattle.image.proofs.ImageLaws.{image_job}
+use Rattle.image.specs.declared.image.Image.{Image}
 use Rattle.table.specs.Lent.{Ready, IsCell}
 use Rattle.questions.proofs.NoLaws.{table_ready, node_ready, offer_number, accept_number, look_number, close_number, page_number}
 
@@ -26,17 +28,17 @@ cond_zero : (b : Bool) (x y : ℕ) → cond b x (suc y) ≡ 0 → (b ≡ true) �
 cond_zero true x y e = (refl, e)
 cond_zero false x y e = absurd (let never : suc y ≡ 0 = e in omega arith)
 
-module _ (m : List ℕ) (t : Table) (image : IsImage m) (r : ℕ) (none : r ≡ 0) where
+module _ (m : Image) (t : Table) (r : ℕ) (none : r ≡ 0) where
   front_ready : (qs : List Question) → r ≡ no_number (table_size (job_of m) t ∷ (table_cells (job_of m) t ∷ qs)) → Ready m t
   unfolding own_questions
   front_ready qs asked =
       let front = table_size (job_of m) t ∷ (table_cells (job_of m) t ∷ []) in
       let fine : no_number front ≡ 0 =
       by_equal (no_number front) 0 (λ e. e) (λ some. absurd (some (sym (no_number_first front qs some) ∙ sym asked ∙ none))) in
-      table_ready m t image 0 (sym fine) refl
+      table_ready m t 0 (sym fine) refl
 
   pub step_fine : (n : ℕ) → r ≡ no_number (own_questions (Call.step n) (job_of m) t) → Ready m t × (n < (job_of m).nodes)
-  step_fine n asked = node_ready m t image n r asked none
+  step_fine n asked = node_ready m t n r asked none
 
   node_front :
       (n : ℕ) (qs : List Question)
@@ -47,7 +49,7 @@ module _ (m : List ℕ) (t : Table) (image : IsImage m) (r : ℕ) (none : r ≡ 
       let front = own_questions (Call.step n) (job_of m) t in
       let fine : no_number front ≡ 0 =
       by_equal (no_number front) 0 (λ e. e) (λ some. absurd (some (sym (no_number_first front qs some) ∙ sym asked ∙ none))) in
-      node_ready m t image n 0 (sym fine) refl
+      node_ready m t n 0 (sym fine) refl
 
   pub offer_fine :
       (s k : ℕ)
@@ -92,7 +94,7 @@ module _ (m : List ℕ) (t : Table) (image : IsImage m) (r : ℕ) (none : r ≡ 
       let (node, rest) = cond_zero (ltb n (job_of m).nodes || eqb n 255) at_12 10 (sym (look_number ready n s k) ∙ sym asked ∙ none) in
       let (numbers, last) = cond_zero (ltb s (size (job_of m)) && ltb k (subformula_count (job_of m))) at_18 11 rest in
       let (state, subformula) = numbers_in (job_of m) s k numbers in
-      let read = read_below (job_of m) image.is_job n s node state in
+      let read = read_below (job_of m) (image_job m) n s node state in
       (ready, record { node_in = read; state_in = state; subformula_in = subformula })
 
   pub close_fine :

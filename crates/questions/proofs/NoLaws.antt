@@ -1,15 +1,16 @@
 -- Questions asked one after the other, for every call: what a no and what a yes leaves to ask, and the answers in the numbers that code has.
 -- Assumes nothing.
 use Prim.Native.Nat.{ℕ, ◌+◌, ◌*◌, ◌<◌, ◌≤◌}
-use mathlib.Core.Path.{◌≡◌, refl, sym, ◌∙◌, ap₂}
+use mathlib.Core.Path.{◌≡◌, refl, sym, ◌∙◌, ap, ap₂}
 use mathlib.Core.Bool.{Bool, true, false, cond, not, ◌&&◌, ◌||◌}
 use mathlib.Core.List.{List, [], ◌∷◌, ◌++◌}
+use Rattle.std.proofs.Common.{Option, Some, None, IfSome, is_some, unwrap_or}
 use native.Mathlib.Omega.{arith}
-use borrow.Author.Tests.{eq-eqb, ne_eqb, eqb-true, lt-ltb, le-ltb, ltb-true, not-true, not-false}
+use borrow.Author.Tests.{eq-eqb, ne_eqb, eqb-true, lt-ltb, le-ltb, ltb-true}
 use lib.ListN.{length}
 use lib.Dec.{eqb, ltb, leb}
 use Rattle.law.specs.Lists.{every}
-use Rattle.law.proofs.Bool.{split, cond_true, cond_false}
+use Rattle.law.proofs.Bool.{split, cond_true, cond_false, not_not}
 use Rattle.law.proofs.Bounded.{by_equal}
 use Rattle.job.specs.Job.{Job, size, subformula_count}
 use mathlib.Core.Option.{Option-elim}
@@ -20,8 +21,12 @@ use Rattle.cells.specs.Table.{Table, table_length, cell, owner_cell, is_empty, c
 use Rattle.cells.specs.Close.{is_temporal, settled, smallest_open, some_open}
 use Rattle.cells.specs.Questions.{table_size, table_cells, node_below, node_or255, numbers_below, temporal_named, owner_filled, truth_value, state_at_border, cell_agrees, state_in_fragment, table_settled, some_owner_empty, page_fits}
 use Rattle.cells.specs.Calls.{Call, own_questions, node_read}
-use Rattle.image.specs.Image.{IsImage, job_of, place_of}
-use Rattle.image.proofs.Places.{place_border, place_outside}
+use Rattle.image.specs.Image.{place_of}
+use Rattle.image.specs.Denoted.{job_of}
+use Rattle.image.proofs.Places.{same_place, place_border, place_outside}
+use Rattle.image.specs.declared.place.Place.{Place}
+use Rattle.image.specs.declared.place.Place.TheVariants.{Outside, Border}
+use Rattle.image.specs.declared.image.Image.{Image}
 use Rattle.table.specs.Lent.{Ready}
 
 -- A question, and those behind it.
@@ -117,23 +122,22 @@ module _ (J : Job) (n : ℕ) where
   node_yes = lt-ltb n J.nodes
 
 -- What stands after them: a table that can be worked on.
-pub table_ready : (m : List ℕ) (t : Table) → IsImage m → (r : ℕ) → r ≡ no_number (own_questions Call.finish (job_of m) t) → r ≡ 0 → Ready m t
-table_ready m t image r asked none =
+pub table_ready : (m : Image) (t : Table) → (r : ℕ) → r ≡ no_number (own_questions Call.finish (job_of m) t) → r ≡ 0 → Ready m t
+table_ready m t r asked none =
     let (long, right) = table_fine (job_of m) t r asked none in
-    record { lent = record { image = image; long = long }; right = right }
+    record { lent = record { long = long }; right = right }
 
 pub node_ready :
-    (m : List ℕ) (t : Table)
-    → IsImage m
+    (m : Image) (t : Table)
     → (n r : ℕ)
     → r ≡ no_number (own_questions (Call.step n) (job_of m) t)
     → r ≡ 0
     → Ready m t × (n < (job_of m).nodes)
-node_ready m t image n r asked none =
+node_ready m t n r asked none =
     let (fine, under) = node_fine (job_of m) t n r asked none in
-    (table_ready m t image 0 fine refl, under)
+    (table_ready m t 0 fine refl, under)
 
-module _ {m : List ℕ} {t : Table} (ready : Ready m t) where
+module _ {m : Image} {t : Table} (ready : Ready m t) where
   pub ready_size : (table_size (job_of m) t).test ≡ true
   ready_size = size_yes (job_of m) t ready.lent.long
 
@@ -225,18 +229,12 @@ module _ (J : Job) (s k r : ℕ) (asked : r ≡ no_number (numbers_below J s k �
   named_yes none = two_yes (ltb s (size J) && ltb k (subformula_count J)) (is_temporal J k) r (asked ∙ named_number J s k) none
 
 -- Questions 16 and 18, in the place that is read.
-module _ (J : Job) (n s r : ℕ) (is : r ≡ place_of J n s) where
-  pub at_no_border : (r ≡ 1 → ⊥) → border J n s ≡ false
-  at_no_border other = sym (place_border J n s) ∙ ne_eqb (place_of J n s) 1 (λ e. other (is ∙ e))
+module _ (J : Job) (n s : ℕ) (p : Place) (is : p ≡ place_of J n s) where
+  pub border_asked : (b : Bool) → b ≡ not (same_place p Border) → border J n s ≡ not b
+  border_asked b told = sym (place_border J n s p is) ∙ sym (not_not (same_place p Border)) ∙ ap not (sym told)
 
-  pub at_border : r ≡ 1 → border J n s ≡ true
-  at_border one = sym (place_border J n s) ∙ eq-eqb (place_of J n s) 1 (sym is ∙ one)
-
-  pub out_of_fragment : r ≡ 0 → in_fragment J n s ≡ false
-  out_of_fragment none = not-true (in_fragment J n s) (sym (place_outside J n s) ∙ eq-eqb (place_of J n s) 0 (sym is ∙ none))
-
-  pub in_fragment_lem : (r ≡ 0 → ⊥) → in_fragment J n s ≡ true
-  in_fragment_lem some = not-false (in_fragment J n s) (sym (place_outside J n s) ∙ ne_eqb (place_of J n s) 0 (λ e. some (is ∙ e)))
+  pub fragment_asked : (b : Bool) → b ≡ same_place p Outside → in_fragment J n s ≡ not b
+  fragment_asked b told = sym (not_not (in_fragment J n s)) ∙ ap not (sym (place_outside J n s p is) ∙ sym told)
 
 -- Question 14, in the cell that is read.
 module _ (cell r : ℕ) (is : r ≡ cell) where
@@ -248,12 +246,12 @@ module _ (cell r : ℕ) (is : r ≡ cell) where
   unfolding is_empty
   filled_yes f = simp (ne_eqb cell 2 (λ e. f (is ∙ e)))
 
--- Question 20, in the smallest open subformula.
-module _ (J : Job) (t : Table) (k : ℕ) (is : k ≡ smallest_open J t) where
-  pub open_no : subformula_count J ≤ k → some_open J t ≡ false
-  unfolding some_open
-  open_no over = le-ltb (smallest_open J t) (subformula_count J) (rw is at over)
-
-  pub open_yes : k < subformula_count J → some_open J t ≡ true
-  unfolding some_open
-  open_yes under = lt-ltb (smallest_open J t) (subformula_count J) (rw is at under)
+-- Question 20, in the smallest open subformula, if there is one.
+pub open_asked :
+    (J : Job) (t : Table) (found : Option ℕ)
+    → IfSome found (λ k. k < subformula_count J)
+    → unwrap_or found (subformula_count J) ≡ smallest_open J t
+    → some_open J t ≡ is_some found
+unfolding some_open
+open_asked J t None within is = le-ltb (smallest_open J t) (subformula_count J) (omega (arith, is))
+open_asked J t (Some k) within is = lt-ltb (smallest_open J t) (subformula_count J) (omega (arith, is, within))

@@ -1,125 +1,113 @@
-// The own questions of the calls on a table, behind 1 to 8: for each call one function that puts them and gives the number of the first no,
-// 0 where there is none. Fresh puts its one itself.
+// The own questions of the calls on a table, behind 1 to 8: for each call one function that puts them in order, and is refused by the first that is
+// answered no. Fresh puts its one itself.
 #![tactic(auto)]
 
-ghost use Rattle.std.specs.Prelude.{◌<◌, ◌≡◌, ◌&&◌, ◌||◌, [], ◌∷◌, ltb, eqb};
+ghost use Rattle.std.specs.Prelude.{◌<◌, ◌≡◌, ◌&&◌, ◌||◌, [], ◌∷◌, ltb, eqb, IfErr};
 ghost use Rattle.job.specs.Job.{size, subformula_count};
 ghost use Rattle.job.specs.Question.{no_number};
+ghost use Rattle.job.specs.Refused.{no_of, line_of_refusal};
 ghost use Rattle.cells.specs.Table.{is_empty};
 ghost use Rattle.cells.specs.Questions.{numbers_below, temporal_named};
 ghost use Rattle.cells.specs.Calls.{Call, own_questions, node_read};
-ghost use Rattle.image.specs.Image.{IsImage, job_of};
+ghost use Rattle.image.specs.Denoted.{job_of};
 
 use closing::smallest_open;
 use exchange::settled::settled;
-use image::image::{Image, nodes, owner, place, states, subformula, subformulas};
+use image::image::Image;
+use image::place::Place;
+use job::refusal::Refusal;
 use job::rule::{is_temporal, rule_of};
 use right_cells::cells_right;
 use table::cell::{cell, owner_cell};
 
 // Finish, and before their other questions all calls but fresh: 9 and 10.
-pub fn table_no(m: &Image, table: &[u8]) -> u8
-    requires { IsImage m.now }
-    ensures { result ≡ no_number (own_questions Call.finish (job_of m.now) table.now) }
+pub fn ask_table(m: &Image, table: &[u8]) -> Result<(), Refusal>
+    ensures first_no { no_of result ≡ no_number (own_questions Call.finish (job_of m.now) table.now) }
+    ensures no_line { IfErr result (λ why. line_of_refusal why ≡ 0) }
 {
-    if table.len() != nodes(m) * states(m) * subformulas(m) {
-        return 9;
+    if table.len() != m.nodes() * m.states() * m.subformulas() {
+        return Err(Refusal::TableLength);
     }
     if !cells_right(m, table) {
-        return 10;
+        return Err(Refusal::Cells);
     }
-    0
+    Ok(())
 }
 
-pub fn step_no(m: &Image, table: &[u8], node: usize) -> u8
-    requires { IsImage m.now }
-    ensures { result ≡ no_number (own_questions (Call.step node) (job_of m.now) table.now) }
+pub fn ask_step(m: &Image, table: &[u8], node: usize) -> Result<(), Refusal>
+    ensures first_no { no_of result ≡ no_number (own_questions (Call.step node) (job_of m.now) table.now) }
+    ensures no_line { IfErr result (λ why. line_of_refusal why ≡ 0) }
 {
-    let no = table_no(m, table);
-    if no != 0 {
-        return no;
+    ask_table(m, table)?;
+    if m.nodes() <= node {
+        return Err(Refusal::Node);
     }
-    if nodes(m) <= node {
-        return 11;
-    }
-    0
+    Ok(())
 }
 
 // Question 12: whether there are such a state and such a subformula.
 fn are_in(m: &Image, s: usize, k: usize) -> bool
-    requires { IsImage m.now }
     ensures { result ≡ (ltb s (size (job_of m.now)) && ltb k (subformula_count (job_of m.now))) }
 {
-    if states(m) <= s {
-        return false;
-    }
-    k < subformulas(m)
+    s < m.states() && k < m.subformulas()
 }
 
 // Questions 12 and 13: what a message names.
-fn named_no(m: &Image, s: usize, k: usize) -> u8
-    requires { IsImage m.now }
-    ensures { result ≡ no_number (numbers_below (job_of m.now) s k ∷ temporal_named (job_of m.now) k ∷ []) }
+fn ask_named(m: &Image, s: usize, k: usize) -> Result<(), Refusal>
+    ensures first_no { no_of result ≡ no_number (numbers_below (job_of m.now) s k ∷ temporal_named (job_of m.now) k ∷ []) }
+    ensures no_line { IfErr result (λ why. line_of_refusal why ≡ 0) }
 {
     if !are_in(m, s, k) {
-        return 12;
+        return Err(Refusal::StateOrSubformula);
     }
-    if !is_temporal(rule_of(subformula(m, k))) {
-        return 13;
+    if !is_temporal(rule_of(m.subformula(k))) {
+        return Err(Refusal::NotTemporal);
     }
-    0
+    Ok(())
 }
 
-pub fn offer_no(m: &Image, table: &[u8], s: usize, k: usize) -> u8
-    requires { IsImage m.now }
-    ensures { result ≡ no_number (own_questions (Call.offer s k) (job_of m.now) table.now) }
+pub fn ask_offer(m: &Image, table: &[u8], s: usize, k: usize) -> Result<(), Refusal>
+    ensures first_no { no_of result ≡ no_number (own_questions (Call.offer s k) (job_of m.now) table.now) }
+    ensures no_line { IfErr result (λ why. line_of_refusal why ≡ 0) }
 {
-    let no = table_no(m, table);
-    if no != 0 {
-        return no;
-    }
-    let no = named_no(m, s, k);
-    if no != 0 {
-        return no;
-    }
+    ask_table(m, table)?;
+    ask_named(m, s, k)?;
     if owner_cell(m, table, s, k) == 2 {
-        return 14;
+        return Err(Refusal::OwnerEmpty);
     }
-    0
+    Ok(())
 }
 
 // Question 17: whether a cell is empty or that value.
 fn agrees(cell: u8, v: u8) -> bool
     ensures { result ≡ (is_empty cell || eqb cell v) }
 {
-    if cell == 2 {
-        return true;
-    }
-    cell == v
+    cell == 2 || cell == v
 }
 
-pub fn accept_no(m: &Image, table: &[u8], n: usize, s: usize, k: usize, v: u8) -> u8
-    requires { IsImage m.now }
-    ensures { result ≡ no_number (own_questions (Call.accept n s k v) (job_of m.now) table.now) }
+pub fn ask_accept(
+    m: &Image,
+    table: &[u8],
+    n: usize,
+    s: usize,
+    k: usize,
+    v: u8,
+) -> Result<(), Refusal>
+    ensures first_no { no_of result ≡ no_number (own_questions (Call.accept n s k v) (job_of m.now) table.now) }
+    ensures no_line { IfErr result (λ why. line_of_refusal why ≡ 0) }
 {
-    let no = step_no(m, table, n);
-    if no != 0 {
-        return no;
-    }
-    let no = named_no(m, s, k);
-    if no != 0 {
-        return no;
-    }
+    ask_step(m, table, n)?;
+    ask_named(m, s, k)?;
     if 1 < v {
-        return 15;
+        return Err(Refusal::Value);
     }
-    if place(m, n, s) != 1 {
-        return 16;
+    if m.place(n, s) != Place::Border {
+        return Err(Refusal::NotBorder);
     }
     if !agrees(cell(m, table, n, s, k), v) {
-        return 17;
+        return Err(Refusal::OtherValue);
     }
-    0
+    Ok(())
 }
 
 // Passed to look where no node is named.
@@ -127,75 +115,58 @@ const NO_NODE: usize = 255;
 
 // Question 11 of look: whether there is such a node, or none is named.
 fn is_node(m: &Image, n: usize) -> bool
-    requires { IsImage m.now }
     ensures { result ≡ (ltb n (job_of m.now).nodes || eqb n 255) }
 {
-    if n < nodes(m) {
-        return true;
-    }
-    n == NO_NODE
+    n < m.nodes() || n == NO_NODE
 }
 
 // The node that is looked at: where none is named, the owner of the state.
 pub fn node_read(m: &Image, n: usize, s: usize) -> usize
-    requires image { IsImage m.now }
-    requires s_bound { s < size (job_of m.now) }
+    requires { s < size (job_of m.now) }
     ensures { result ≡ node_read (job_of m.now) n s }
 {
-    if n == NO_NODE {
-        return owner(m, s);
-    }
-    n
+    if n == NO_NODE { m.owner(s) } else { n }
 }
 
-pub fn look_no(m: &Image, table: &[u8], n: usize, s: usize, k: usize) -> u8
-    requires { IsImage m.now }
-    ensures { result ≡ no_number (own_questions (Call.look n s k) (job_of m.now) table.now) }
+pub fn ask_look(m: &Image, table: &[u8], n: usize, s: usize, k: usize) -> Result<(), Refusal>
+    ensures first_no { no_of result ≡ no_number (own_questions (Call.look n s k) (job_of m.now) table.now) }
+    ensures no_line { IfErr result (λ why. line_of_refusal why ≡ 0) }
 {
-    let no = table_no(m, table);
-    if no != 0 {
-        return no;
-    }
+    ask_table(m, table)?;
     if !is_node(m, n) {
-        return 11;
+        return Err(Refusal::Node);
     }
     if !are_in(m, s, k) {
-        return 12;
+        return Err(Refusal::StateOrSubformula);
     }
-    if place(m, node_read(m, n, s), s) == 0 {
-        return 18;
+    if m.place(node_read(m, n, s), s) == Place::Outside {
+        return Err(Refusal::OutsideFragment);
     }
-    0
+    Ok(())
 }
 
-pub fn close_no(m: &Image, table: &[u8]) -> u8
-    requires { IsImage m.now }
-    ensures { result ≡ no_number (own_questions Call.close (job_of m.now) table.now) }
+pub fn ask_close(m: &Image, table: &[u8]) -> Result<(), Refusal>
+    ensures first_no { no_of result ≡ no_number (own_questions Call.close (job_of m.now) table.now) }
+    ensures no_line { IfErr result (λ why. line_of_refusal why ≡ 0) }
 {
-    let no = table_no(m, table);
-    if no != 0 {
-        return no;
-    }
+    ask_table(m, table)?;
     if !settled(m, table) {
-        return 19;
+        return Err(Refusal::NotSettled);
     }
-    if subformulas(m) <= smallest_open(m, table) {
-        return 20;
+    if smallest_open(m, table).is_none() {
+        return Err(Refusal::NothingOpen);
     }
-    0
+    Ok(())
 }
 
 // Page: those of step, and whether the buffer has room for a line for each state and one more.
-pub fn page_no(m: &Image, table: &[u8], node: usize, room: usize) -> u8
-    requires { IsImage m.now }
-    ensures { result ≡ no_number (own_questions (Call.page node room) (job_of m.now) table.now) }
+pub fn ask_page(m: &Image, table: &[u8], node: usize, room: usize) -> Result<(), Refusal>
+    ensures first_no { no_of result ≡ no_number (own_questions (Call.page node room) (job_of m.now) table.now) }
+    ensures no_line { IfErr result (λ why. line_of_refusal why ≡ 0) }
 {
-    let no = step_no(m, table, node);
-    if no != 0 {
-        return no;
+    ask_step(m, table, node)?;
+    if room < 80 * (m.states() + 1) {
+        return Err(Refusal::PageBuffer);
     }
-    if room < 80 * (states(m) + 1) {
-        return 24;
-    }
-    0
+    Ok(())
 }

@@ -7,10 +7,10 @@ use mathlib.Core.List.{List, [], ◌∷◌}
 use native.Mathlib.Nat.{mod-eq_of_lt}
 use native.Mathlib.Omega.{arith}
 use borrow.Author.Tests.{eq-eqb, ne_eqb}
-use lib.ListN.{length, get_or, drop}
+use lib.ListN.{get_or, drop}
 use Rattle.law.specs.Bounded.{first, all}
 use Rattle.law.proofs.Bool.{not_not, not_is_true, not_is_false}
-use Rattle.law.proofs.Bounded.{by_order, first_before, first_passes, first_le, first_fails, all_intro}
+use Rattle.law.proofs.Bounded.{first_before, first_passes, first_le, first_fails, all_intro}
 use Rattle.text.specs.Field.{Text}
 use Rattle.job.specs.Layout.{states, subformulas, edge_at, kind_field, left_field, right_field}
 use Rattle.job.specs.Question.{Question, answered, refusal}
@@ -20,18 +20,18 @@ use Rattle.job.specs.Formula.{parsed, formula as formula_of}
 use Rattle.job.specs.Read.{header, read_answer, read_told}
 use Rattle.job.specs.Leaves.{Fits}
 use Rattle.job.specs.declared.reading.Header.{Header}
-use Rattle.job.specs.declared.reading.Reading.{Reading}
-use Rattle.job.specs.declared.reading.Reading.TheVariants.{Accepted}
+use Rattle.job.specs.declared.refusal.Refusal.{Refusal}
+use Rattle.job.specs.declared.refusal.Refusal.TheVariants.{MalformedLine}
+use Rattle.std.proofs.Common.{Result, Ok, Err}
 use Rattle.job.proofs.Formula.{parsed_stands, formula_is, fields_below}
 use Rattle.job.proofs.Places.{by_line, two_formed, three_formed}
 use Rattle.job.proofs.QuestionLaws.{refused_not_accepted, answered_yes, answered_no, answered_none}
 use Rattle.job.proofs.ReadLaws.{fields_pass, fields_refuse, read_passed}
 use Rattle.edge_pass.specs.EdgePass.{kept_after, kept_of, terminal_state, question6, question7}
 use Rattle.edge_pass.specs.declared.Kept.{Kept}
-use Rattle.edge_pass.proofs.EdgePassLaws.{kept_states, kept_right, kept_marks, answer_6, answer_7}
+use Rattle.edge_pass.proofs.EdgePassLaws.{kept_states, kept_right, answer_6, answer_7}
 use Rattle.image.specs.Image.{OWNERS, LABELS, SOURCES, TARGETS, KINDS}
-use Rattle.line_reader.specs.LinesRead.{header_of, LinesRead, HeadLaid, state_formed, StatesLaid, StatesRead, edge_formed, EdgesLaid, EdgesRead, formula_formed, FormulasLaid, FormulasRead}
-use Rattle.line_reader.specs.declared.lines.Lines.{Lines}
+use Rattle.line_reader.specs.LinesRead.{header_of, formed_lines, RightLines, HeadLaid, state_formed, StatesLaid, StatesRead, edge_formed, EdgesLaid, EdgesRead, formula_formed, FormulasLaid, FormulasRead}
 use Rattle.reader.specs.NumbersRead.{Askable, question5, question8, lines_asked, NumbersLaid, NumbersRead}
 
 -- Questions 5 to 8, each the first that is answered no, or none.
@@ -82,19 +82,16 @@ module _ (h : Header) (s : ℕ) (k : Kept) (f : ℕ) where
             behind_7 ∙ answered_yes (question8 h f) _ 4 (header_of h) (eq-eqb f h.subformulas y) ∙ answered_none [] 4 (header_of h) refl
 
 -- What the first of n lines that is not well-formed says of the lines.
-module _ (is_formed : ℕ → Bool) (n b : ℕ) (found : b ≡ first (λ i. not (is_formed i)) n) where
-  formed_before : (i : ℕ) → i < b → is_formed i ≡ true
-  formed_before i l = sym (not_not (is_formed i)) ∙ not_is_true (not (is_formed i)) (first_before (λ j. not (is_formed j)) n i (omega arith))
+module _ (is_formed : ℕ → Bool) (n : ℕ) where
+  formed_before : (i : ℕ) → i < formed_lines is_formed n → is_formed i ≡ true
+  formed_before i l = sym (not_not (is_formed i)) ∙ not_is_true (not (is_formed i)) (first_before (λ j. not (is_formed j)) n i l)
 
-  not_all : (b ≡ n → ⊥) → b < n
-  not_all other = by_order b n (λ l. l) (λ l. absurd (other (omega (arith, first_le (λ i. not (is_formed i)) n))))
-
-  fails_there : b < n → is_formed b ≡ false
+  fails_there : formed_lines is_formed n < n → is_formed (formed_lines is_formed n) ≡ false
   fails_there l =
-      let at : first (λ i. not (is_formed i)) n < n = omega arith in
-      rw found (sym (not_not (is_formed (first (λ i. not (is_formed i)) n))) ∙ not_is_false (not (is_formed (first (λ i. not (is_formed i)) n))) (first_passes (λ i. not (is_formed i)) n at))
+      let b = formed_lines is_formed n in
+      sym (not_not (is_formed b)) ∙ not_is_false (not (is_formed b)) (first_passes (λ i. not (is_formed i)) n l)
 
-pub found_few : (p : ℕ → Bool) (n b : ℕ) → b ≡ first p n → b ≤ n
+found_few : (p : ℕ → Bool) (n b : ℕ) → b ≡ first p n → b ≤ n
 found_few p n b found = omega (arith, first_le p n)
 
 -- Question 4: the state lines come first, then the edge lines, then the subformula lines.
@@ -120,45 +117,56 @@ module _ (t : Text) (h : Header) (fits : Fits t h) where
   malformed b l before fails =
       fields_refuse t h fits b l (first_fails (formed_line t) count b l before fails)
 
-  module _ (s : ℕ) (states_found : s ≡ first (λ i. not (state_formed t i)) h.states) where
-    pub malformed_state : (s ≡ h.states → ⊥) → refused 4 (2 + s) 4 ≡ read_answer t
-    malformed_state other =
-        let l = not_all (state_formed t) h.states s states_found other in
-        malformed s (omega arith)
-        (λ i g. state_line_lem i (omega arith) ∙ formed_before (state_formed t) h.states s states_found i g)
-        (state_line_lem s l ∙ fails_there (state_formed t) h.states s states_found l)
+  abbrev states_formed : ℕ
+  states_formed = formed_lines (state_formed t) h.states
 
-    module _ (all_states : s ≡ h.states) (e : ℕ) (edges_found : e ≡ first (λ i. not (edge_formed t i)) h.edges) where
-      states_formed : (i : ℕ) → i < h.states → formed_line t i ≡ true
-      states_formed i l = state_line_lem i l ∙ formed_before (state_formed t) h.states s states_found i (omega arith)
+  abbrev edges_formed : ℕ
+  edges_formed = formed_lines (edge_formed t) h.edges
 
-      pub malformed_edge : (e ≡ h.edges → ⊥) → refused 4 (2 + (h.states + e)) 4 ≡ read_answer t
-      malformed_edge other =
-          let l = not_all (edge_formed t) h.edges e edges_found other in
-          malformed (h.states + e) (omega arith)
-          (λ i g.
-          by_line (λ i. formed_line t i ≡ true) h.states e 0 states_formed
-          (λ d g. edge_line_lem d (omega arith) ∙ formed_before (edge_formed t) h.edges e edges_found d g)
-          (λ k g. absurd (omega arith)) i (omega arith))
-          (edge_line_lem e l ∙ fails_there (edge_formed t) h.edges e edges_found l)
+  abbrev formulas_formed : ℕ
+  formulas_formed = formed_lines (formula_formed t) h.subformulas
 
-      module _ (all_edges : e ≡ h.edges) (k : ℕ) (formulas_found : k ≡ first (λ i. not (formula_formed t i)) h.subformulas) where
-        edges_formed : (d : ℕ) → d < h.edges → formed_line t (h.states + d) ≡ true
-        edges_formed d l = edge_line_lem d l ∙ formed_before (edge_formed t) h.edges e edges_found d (omega arith)
+  malformed_state : states_formed < h.states → refused 4 (2 + states_formed) 4 ≡ read_answer t
+  malformed_state l =
+      malformed states_formed (omega arith)
+      (λ i g. state_line_lem i (omega arith) ∙ formed_before (state_formed t) h.states i g)
+      (state_line_lem states_formed l ∙ fails_there (state_formed t) h.states l)
 
-        up_to : (i : ℕ) → i < h.states + h.edges + k → formed_line t i ≡ true
-        up_to =
-            by_line (λ i. formed_line t i ≡ true) h.states h.edges k states_formed edges_formed
-            (λ j g. formula_line_lem j ∙ formed_before (formula_formed t) h.subformulas k formulas_found j g)
+  module _ (all_states : states_formed ≡ h.states) where
+    state_lines_formed : (i : ℕ) → i < h.states → formed_line t i ≡ true
+    state_lines_formed i l = state_line_lem i l ∙ formed_before (state_formed t) h.states i (omega arith)
 
-        pub malformed_formula : (k ≡ h.subformulas → ⊥) → refused 4 (2 + (h.states + h.edges + k)) 4 ≡ read_answer t
-        malformed_formula other =
-            let l = not_all (formula_formed t) h.subformulas k formulas_found other in
-            malformed (h.states + h.edges + k) (omega arith) up_to
-            (formula_line_lem k ∙ fails_there (formula_formed t) h.subformulas k formulas_found l)
+    malformed_edge : edges_formed < h.edges → refused 4 (2 + h.states + edges_formed) 4 ≡ read_answer t
+    malformed_edge l =
+        let e = edges_formed in
+        let line : 2 + h.states + e ≡ 2 + (h.states + e) = omega arith in
+        ap (λ n. refused 4 n 4) line
+        ∙ malformed (h.states + e) (omega arith)
+        (λ i g.
+        by_line (λ i. formed_line t i ≡ true) h.states e 0 state_lines_formed
+        (λ d g. edge_line_lem d (omega arith) ∙ formed_before (edge_formed t) h.edges d g)
+        (λ k g. absurd (omega arith)) i (omega arith))
+        (edge_line_lem e l ∙ fails_there (edge_formed t) h.edges l)
 
-        all_formed : k ≡ h.subformulas → read_answer t ≡ answered (drop 4 (text_questions t)) 4 (header t)
-        all_formed all_formulas = fields_pass t h fits (all_intro (formed_line t) count (λ i l. up_to i (omega arith)))
+    module _ (all_edges : edges_formed ≡ h.edges) where
+      edge_lines_formed : (d : ℕ) → d < h.edges → formed_line t (h.states + d) ≡ true
+      edge_lines_formed d l = edge_line_lem d l ∙ formed_before (edge_formed t) h.edges d (omega arith)
+
+      up_to : (i : ℕ) → i < h.states + h.edges + formulas_formed → formed_line t i ≡ true
+      up_to =
+          by_line (λ i. formed_line t i ≡ true) h.states h.edges formulas_formed state_lines_formed edge_lines_formed
+          (λ j g. formula_line_lem j ∙ formed_before (formula_formed t) h.subformulas j g)
+
+      malformed_formula : formulas_formed < h.subformulas → refused 4 (2 + (h.states + h.edges) + formulas_formed) 4 ≡ read_answer t
+      malformed_formula l =
+          let k = formulas_formed in
+          let line : 2 + (h.states + h.edges) + k ≡ 2 + (h.states + h.edges + k) = omega arith in
+          ap (λ n. refused 4 n 4) line
+          ∙ malformed (h.states + h.edges + k) (omega arith) up_to
+          (formula_line_lem k ∙ fails_there (formula_formed t) h.subformulas l)
+
+      all_formed : formulas_formed ≡ h.subformulas → read_answer t ≡ answered (drop 4 (text_questions t)) 4 (header t)
+      all_formed all_formulas = fields_pass t h fits (all_intro (formed_line t) count (λ i l. up_to i (omega arith)))
 
 -- Behind the last line, all of them well-formed: questions 5 to 8 are those of the text.
 module _
@@ -195,34 +203,49 @@ module _
 
 -- What is kept is small enough to be asked.
 pub askable :
-    (t : Text) (h : Header) → Fits t h → (s : Lines) (k : Kept) (f : Lines)
-    → LinesRead (state_formed t) (state_ok t) h.states s.formed s.right
-    → k ≡ kept_after t k.order.lines
-    → k.order.lines ≡ h.edges
-    → LinesRead (formula_formed t) (formula_ok t) h.subformulas f.formed f.right
-    → Askable h s.right k f.right
-askable t h fits s k f state kept lines formula =
-    let right : k.order.right ≡ first (λ d. not (edge_ok t d)) k.order.lines = ap (λ x. x.order.right) kept ∙ kept_right t k.order.lines in
-    let few : k.order.states ≡ states t = ap (λ x. x.order.states) kept ∙ kept_states t k.order.lines in
+    (t : Text) (h : Header) → Fits t h → (s : ℕ) (k : Kept) (f : ℕ)
+    → RightLines (state_ok t) h.states s
+    → k ≡ kept_after t h.edges
+    → RightLines (formula_ok t) h.subformulas f
+    → Askable h s k f
+askable t h fits s k f state kept formula =
+    let right : k.order.right ≡ first (λ d. not (edge_ok t d)) h.edges = ap (λ x. x.order.right) kept ∙ kept_right t h.edges in
+    let few : k.order.states ≡ states t = ap (λ x. x.order.states) kept ∙ kept_states t h.edges in
     record {
-      states_few = (fits.states_to, omega (arith, found_few _ _ _ state.formed_are, found_few _ _ _ state.right_are, fits.states_to));
+      states_few = (fits.states_to, omega (arith, found_few _ _ _ state, fits.states_to));
       edges_few = (fits.edges_to, omega (arith, found_few _ _ _ right, fits.edges_to));
-      subformulas_few = omega (arith, found_few _ _ _ formula.formed_are, found_few _ _ _ formula.right_are, fits.subformulas_to);
+      subformulas_few = omega (arith, found_few _ _ _ formula, fits.subformulas_to);
       kept_states = omega (arith, fits.states_are, fits.states_to);
-      kept_starts = ap (λ x. length x.starts) kept ∙ kept_marks t k.order.lines;
     }
 
 -- A refusal leaves nothing to be said of the array.
-pub refused_read :
-    (t : Text) (before m : List ℕ) (r : Reading) (number line : ℕ) → read_told r ≡ refused number line 4 → refused number line 4 ≡ read_answer t
-    → NumbersRead t before m r
+pub refused_read : (t : Text) (before m : List ℕ) (why : Refusal) → read_told (Err why) ≡ read_answer t → NumbersRead t before m (Err why)
 unfolding read_told
-refused_read t before m r number line told is =
-    record { told = told ∙ is; laid = λ h e. absurd (refused_not_accepted _ _ _ _ (sym (ap read_told e) ∙ told)) }
+refused_read t before m why is =
+    record { told = is; laid = λ h e. absurd (refused_not_accepted _ _ _ _ (sym (ap read_told e))) }
+
+-- The refusals of the three loops: each reports the first malformed line of the text.
+told_malformed : (t : Text) (why : Refusal) (line : ℕ) → why ≡ MalformedLine line → refused 4 line 4 ≡ read_answer t → read_told (Err why) ≡ read_answer t
+unfolding read_told
+told_malformed t why line e is = ap (λ w. read_told (Err w)) e ∙ is
+
+module _ (t : Text) (h : Header) (fits : Fits t h) (m₀ m₁ m₂ : List ℕ) where
+  pub states_refused : (why : Refusal) → StatesRead t h m₁ m₂ (Err why) → NumbersRead t m₀ m₂ (Err why)
+  states_refused why r = refused_read t m₀ m₂ why (told_malformed t why _ r.lines.1 (malformed_state t h fits r.lines.0))
+
+  module _ (s : ℕ) (state : StatesRead t h m₁ m₂ (Ok s)) (m₃ : List ℕ) where
+    pub edges_refused : (why : Refusal) → EdgesRead t h m₂ m₃ (Err why) → NumbersRead t m₀ m₃ (Err why)
+    edges_refused why r =
+        refused_read t m₀ m₃ why (told_malformed t why _ r.lines.1 (malformed_edge t h fits state.lines.0 r.lines.0))
+
+    module _ (k : Kept) (edge : EdgesRead t h m₂ m₃ (Ok k)) (m₄ : List ℕ) where
+      pub formulas_refused : (why : Refusal) → FormulasRead t h m₃ m₄ (Err why) → NumbersRead t m₀ m₄ (Err why)
+      formulas_refused why r =
+          refused_read t m₀ m₄ why (told_malformed t why _ r.lines.1 (malformed_formula t h fits state.lines.0 edge.lines.0 r.lines.0))
 
 -- The numbers of an accepted text fit their words, so they stand there exactly.
 module _
-    (t : Text) (h g : Header) (fits : Fits t h) (told : read_told (Accepted g) ≡ read_answer t)
+    (t : Text) (h g : Header) (fits : Fits t h) (told : read_told (Ok g) ≡ read_answer t)
     (m₀ m₁ m₂ m₃ m₄ : List ℕ)
     (head : HeadLaid h m₀ m₁)
     (state : StatesLaid t h.states m₁ m₂)
@@ -287,28 +310,20 @@ module _
 
 -- Every line is well-formed: the answer is what questions 5 to 8 come to, and where they are answered yes the numbers stand in the array.
 pub all_read :
-    (t : Text) (h : Header) (fits : Fits t h) (m₀ m₁ m₂ m₃ m₄ : List ℕ) (s : Lines) (k : Kept) (f : Lines) (r : Reading)
+    (t : Text) (h : Header) (fits : Fits t h) (m₀ m₁ m₂ m₃ m₄ : List ℕ) (s : ℕ) (k : Kept) (f : ℕ) (r : Result Header Refusal)
     → HeadLaid h m₀ m₁
-    → StatesRead t h m₁ m₂ s
-    → s.formed ≡ h.states
-    → EdgesRead t h m₂ m₃ k
-    → k.order.lines ≡ h.edges
-    → FormulasRead t h m₃ m₄ f
-    → f.formed ≡ h.subformulas
-    → read_told r ≡ answered (lines_asked h s.right k f.right) 4 (header_of h)
+    → StatesRead t h m₁ m₂ (Ok s)
+    → EdgesRead t h m₂ m₃ (Ok k)
+    → FormulasRead t h m₃ m₄ (Ok f)
+    → read_told r ≡ answered (lines_asked h s k f) 4 (header_of h)
     → NumbersRead t m₀ m₄ r
-all_read t h fits m₀ m₁ m₂ m₃ m₄ s k f r head state all_states edge all_edges formula all_formulas asked =
-    let behind =
-    all_formed t h fits s.formed state.lines.formed_are all_states k.order.lines edge.formed_are all_edges f.formed
-    formula.lines.formed_are all_formulas in
-    let told =
-    asked
-    ∙ lines_answered t h fits s.right k f.right (state.lines.right_are ∙ ap (first (λ i. not (state_ok t i))) all_states)
-    (edge.kept ∙ ap (kept_after t) all_edges) (formula.lines.right_are ∙ ap (first (λ i. not (formula_ok t i))) all_formulas) behind in
+all_read t h fits m₀ m₁ m₂ m₃ m₄ s k f r head state edge formula asked =
+    let behind = all_formed t h fits state.lines.0 edge.lines.0 formula.lines.0 in
+    let told = asked ∙ lines_answered t h fits s k f state.lines.1 edge.lines.1 formula.lines.1 behind in
     record {
       told = told;
       laid =
           λ g e.
-          numbers_laid t h g fits (ap read_told (sym e) ∙ told) m₀ m₁ m₂ m₃ m₄ head (subst (λ n. StatesLaid t n m₁ m₂) all_states state.laid)
-          (subst (λ n. EdgesLaid t n m₂ m₃) all_edges edge.laid) (subst (λ n. FormulasLaid t n m₃ m₄) all_formulas formula.laid);
+          numbers_laid t h g fits (ap read_told (sym e) ∙ told) m₀ m₁ m₂ m₃ m₄ head (subst (λ n. StatesLaid t n m₁ m₂) state.lines.0 state.laid)
+          (subst (λ n. EdgesLaid t n m₂ m₃) edge.lines.0 edge.laid) (subst (λ n. FormulasLaid t n m₃ m₄) formula.lines.0 formula.laid);
     }

@@ -1,16 +1,15 @@
 // Questions 1 to 8 in order.
-ghost use Rattle.std.specs.Prelude.{◌≡◌, length};
+ghost use Rattle.std.specs.Prelude.{◌≡◌};
 ghost use Rattle.job.specs.Question.{answered};
 ghost use Rattle.job.specs.Read.{read_told, read_answer};
-ghost use Rattle.image.specs.Image.{WORDS};
 ghost use Rattle.line_reader.specs.LinesRead.{header_of};
 ghost use Rattle.reader.specs.NumbersRead.{Askable, lines_asked, NumbersRead};
 
 use edge_pass::{Kept, terminal_state};
-use image::image::Image;
-use job::reading::{Header, Reading};
+use image::image::{WORDS, Words};
+use job::reading::Header;
+use job::refusal::Refusal;
 use layout::head::head;
-use layout::refusal::refuse;
 use line_reader::edges::read_edges;
 use line_reader::formula::read_formulas;
 use line_reader::lines::lay_head;
@@ -18,57 +17,42 @@ use line_reader::states::read_states;
 
 // Questions 5 to 8, where every line is well-formed: s state lines and k subformula lines are right before the first that is not, and the pass over the
 // edge lines has kept this.
-fn ask_lines(h: Header, s: usize, kept: Kept, k: usize) -> Reading
+fn ask_lines(h: Header, s: usize, kept: Kept, k: usize) -> Result<Header, Refusal>
     requires { Askable h s kept k }
     ensures { read_told result ≡ answered (lines_asked h s kept k) 4 (header_of h) }
 {
     if s != h.states {
-        return refuse(5, 2 + s);
+        return Err(Refusal::StateLine(2 + s));
     }
     let order = kept.order;
     if order.right != order.lines {
-        return refuse(6, 2 + order.states + order.right);
+        return Err(Refusal::EdgeLine(2 + order.states + order.right));
     }
-    let terminal = terminal_state(&kept.starts, order.states);
-    if terminal != order.states {
-        return refuse(7, 2 + terminal);
+    if let Some(terminal) = terminal_state(&kept.starts, order.states) {
+        return Err(Refusal::NoEdgeOut(2 + terminal));
     }
     if k != h.subformulas {
-        return refuse(8, 2 + h.states + h.edges + k);
+        return Err(Refusal::SubformulaLine(2 + h.states + h.edges + k));
     }
-    Reading::Accepted(h)
+    Ok(h)
 }
 
 // The reader's answer; where it accepts, the text's numbers are in the array that is lent.
-pub fn read_numbers(text: &[u8], m: &mut Image) -> Reading
-    requires { length m.old ≡ WORDS }
+pub fn read_numbers(text: &[u8], m: &mut Words) -> Result<Header, Refusal>
     ensures { NumbersRead text.now m.old m.new result }
 {
-    let head = head(text);
-    let Reading::Accepted(h) = head else {
-        return head;
-    };
+    let h = head(text)?;
     lay_head(m, h);
-    let states = read_states(text, h, m);
-    if states.formed != h.states {
-        return refuse(4, 2 + states.formed);
-    }
-    let edges = read_edges(text, h, m);
-    let order = edges.order;
-    if order.lines != h.edges {
-        return refuse(4, 2 + (h.states + order.lines));
-    }
-    let formulas = read_formulas(text, h, m);
-    if formulas.formed != h.subformulas {
-        return refuse(4, 2 + (h.states + h.edges + formulas.formed));
-    }
-    ask_lines(h, states.right, edges, formulas.right)
+    let states = read_states(text, h, m)?;
+    let kept = read_edges(text, h, m)?;
+    let formulas = read_formulas(text, h, m)?;
+    ask_lines(h, states, kept, formulas)
 }
 
 // The reader's answer alone.
-pub fn read(text: &[u8]) -> Reading
+pub fn read(text: &[u8]) -> Result<Header, Refusal>
     ensures { read_told result ≡ read_answer text.now }
 {
-    let mut m = [0u16; 13165];
+    let mut m = [0u16; WORDS];
     read_numbers(text, &mut m)
 }

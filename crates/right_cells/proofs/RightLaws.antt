@@ -1,66 +1,35 @@
 -- Question 10, asked row by row. Assumes nothing.
-use Prim.Native.Nat.{ℕ, ◌<◌, ◌≤◌}
+use Prim.Native.Nat.{ℕ, ◌<◌}
 use mathlib.Core.Path.{◌≡◌, sym, ◌∙◌, ap}
-use mathlib.Core.Bool.{Bool, true, false, not, ◌&&◌, ◌||◌}
+use mathlib.Core.Bool.{Bool, not, ◌&&◌, ◌||◌}
 use native.Mathlib.Omega.{arith}
-use borrow.Author.Tests.{eq-eqb, ne_eqb, le-leb, lt-leb, not-true, not-false}
 use lib.ListN.{length, get_or}
 use lib.Dec.{leb, eqb}
-use Rattle.law.proofs.Bool.{contrapose, or_true}
-use Rattle.law.proofs.Bounded.{all_intro, all_elim, all_fails}
+use Rattle.law.specs.Bounded.{all}
+use Rattle.law.proofs.Bool.{same_test, not_not}
+use Rattle.law.proofs.Bounded.{all_intro, all_elim}
 use Rattle.job.specs.Job.{Job, size, subformula_count}
 use Rattle.cells.specs.Fragment.{in_fragment}
 use Rattle.cells.specs.Table.{Table, table_length, index, node_of, state_of, subformula_of, cell, is_empty, inside, cells_right}
-use Rattle.cells.proofs.Fill.{is_empty_lem, not_empty}
 use Rattle.cells.proofs.Index.{node_of_index, state_of_index, index_lt, node_of_lt, state_of_lt, subformula_of_lt, cell_at}
 use Rattle.image.specs.Image.{place_of}
-use Rattle.image.proofs.Places.{place_outside}
-use Rattle.right_cells.specs.Right.{cell_right, row_right}
+use Rattle.image.specs.declared.place.Place.{Place}
+use Rattle.image.specs.declared.place.Place.TheVariants.{Outside}
+use Rattle.image.proofs.Places.{same_place, place_outside}
+use Rattle.right_cells.specs.Right.{cell_right, row_right, node_right}
 
--- What the place says, by the code's test.
-module _ (J : Job) (n s p : ℕ) (is : p ≡ place_of J n s) where
-  outside_is : eqb p 0 ≡ not (in_fragment J n s)
-  outside_is = ap (λ x. eqb x 0) is ∙ place_outside J n s
+module _ (J : Job) (n s : ℕ) (p : Place) (is : p ≡ place_of J n s) (outside : Bool) (out : outside ≡ same_place p Outside) where
+  inside_is : not outside ≡ in_fragment J n s
+  inside_is = ap not (out ∙ place_outside J n s p is) ∙ not_not (in_fragment J n s)
 
-  pub place_out : p ≡ 0 → in_fragment J n s ≡ false
-  place_out e = not-true (in_fragment J n s) (sym outside_is ∙ eq-eqb p 0 e)
-
-  pub place_in : (p ≡ 0 → ⊥) → in_fragment J n s ≡ true
-  place_in e = not-false (in_fragment J n s) (sym outside_is ∙ ne_eqb p 0 e)
-
--- One cell, by the code's tests.
-module _ (J : Job) (t : Table) (n s k v : ℕ) (is : v ≡ cell J t n s k) where
-  pub right_large : 2 < v → cell_right J t n s k ≡ false
-  unfolding cell_right
-  right_large h = simp (lt-leb (cell J t n s k) 2 (rw is at h))
-
-  pub right_outside : v < 2 → in_fragment J n s ≡ false → cell_right J t n s k ≡ false
-  unfolding cell_right
-  right_outside h o =
-      let c = cell J t n s k in
-      let less : c < 2 = rw is at h in
-      simp (le-leb c 2 (omega arith), o, not_empty c (λ e. omega arith))
-
-  pub right_empty : v ≤ 2 → 2 ≤ v → cell_right J t n s k ≡ true
-  unfolding cell_right
-  right_empty a b =
-      let c = cell J t n s k in
-      let two : c ≡ 2 = omega arith in
-      simp (le-leb c 2 (omega arith), is_empty_lem c two) (or_true (in_fragment J n s))
-
-  pub right_inside : v ≤ 2 → in_fragment J n s ≡ true → cell_right J t n s k ≡ true
-  unfolding cell_right
-  right_inside a o = simp (le-leb (cell J t n s k) 2 (rw is at a), o)
-
--- One row.
-module _ (J : Job) (t : Table) (n s : ℕ) where
-  pub row_yes : ((k : ℕ) → k < subformula_count J → cell_right J t n s k ≡ true) → true ≡ row_right J t n s
-  unfolding row_right
-  row_yes h = sym (all_intro (cell_right J t n s) (subformula_count J) h)
-
-  pub row_no : (k : ℕ) → k < subformula_count J → cell_right J t n s k ≡ false → false ≡ row_right J t n s
-  unfolding row_right
-  row_no k l f = sym (all_fails (cell_right J t n s) (subformula_count J) k l f)
+  -- one cell, by the value that is read
+  pub cell_asked :
+      (t : Table) (k v : ℕ) (b : Bool)
+      → v ≡ cell J t n s k
+      → b ≡ (leb v 2 && (not outside || eqb v 2))
+      → b ≡ cell_right J t n s k
+  unfolding cell_right is_empty
+  cell_asked t k v b read asked = rw (read, inside_is) at asked
 
 -- All rows.
 module _ (J : Job) (t : Table) (long : length t ≡ table_length J) where
@@ -75,26 +44,24 @@ module _ (J : Job) (t : Table) (long : length t ≡ table_length J) where
   unfolding cell_right inside cell
   by_cell n s k b c = rw (node_of_index J n s k b c, state_of_index J n s k b c)
 
-  pub rows_yes : ((n : ℕ) → n < J.nodes → (s : ℕ) → s < size J → row_right J t n s ≡ true) → true ≡ cells_right J t
-  unfolding cells_right row_right
-  rows_yes rows =
-      sym
-      (all_intro right (length t)
+  pub nodes_right : all (node_right J t) J.nodes ≡ cells_right J t
+  unfolding cells_right row_right node_right
+  nodes_right =
+      same_test (all (node_right J t) J.nodes) (cells_right J t)
+      (λ yes.
+      all_intro right (length t)
       (λ i h.
       let l : i < table_length J = omega arith in
       let n = node_of J i in
       let s = state_of J i in
-      sym (by_byte i)
-      ∙ all_elim (cell_right J t n s) (subformula_count J) (rows n (node_of_lt J i l) s (state_of_lt J i l)) (subformula_of J i) (subformula_of_lt J i l)))
-
-  pub rows_no : (n s : ℕ) → n < J.nodes → s < size J → row_right J t n s ≡ false → false ≡ cells_right J t
-  unfolding cells_right row_right
-  rows_no n s a b f =
-      sym
-      (contrapose (cells_right J t) (row_right J t n s)
+      let node = all_elim (node_right J t) J.nodes yes n (node_of_lt J i l) in
+      let row = all_elim (row_right J t n) (size J) node s (state_of_lt J i l) in
+      sym (by_byte i) ∙ all_elim (cell_right J t n s) (subformula_count J) row (subformula_of J i) (subformula_of_lt J i l)))
       (λ yes.
+      all_intro (node_right J t) J.nodes
+      (λ n a.
+      all_intro (row_right J t n) (size J)
+      (λ s b.
       all_intro (cell_right J t n s) (subformula_count J)
-      (λ k c.
-      sym (by_cell n s k b c)
-      ∙ all_elim right (length t) yes (index J n s k) (rw long (index_lt J n s k a b c))))
-      f)
+      (λ k d.
+      sym (by_cell n s k b d) ∙ all_elim right (length t) yes (index J n s k) (rw long (index_lt J n s k a b d))))))

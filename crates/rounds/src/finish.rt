@@ -3,15 +3,16 @@ ghost use Rattle.std.specs.Prelude.{◌≡◌, [], ◌∷◌, ◌+◌, ◌≤◌
 ghost use Rattle.cells.specs.Table.{empty_cells};
 ghost use Rattle.cells.specs.Finish.{finish};
 ghost use Rattle.cells.specs.Calls.{Call, told, left};
-ghost use Rattle.image.specs.Image.{job_of};
+ghost use Rattle.image.specs.Denoted.{job_of};
 ghost use Rattle.table.specs.Lent.{Ready};
 
 use crate::round::round;
-use image::image::{Image, subformulas};
+use image::image::Image;
+use pending::Pending;
 use table::cell::owner_cell;
 
 // The rounds done and the cells filled.
-#[derive(Clone, Copy)]
+#[derive(Clone, Copy, Debug, PartialEq, Eq)]
 struct Rounds {
     rounds: usize,
     cells: usize,
@@ -24,12 +25,11 @@ fn run(m: &Image, table: &mut [u8]) -> Rounds
     ensures rounds_value { result.rounds ≡ (finish (job_of m.now) table.old).rounds }
     ensures cells_value { result.cells ≡ (finish (job_of m.now) table.old).cells }
 {
-    let mut stale = [1u8; 256];
-    let mut news = [1u8; 32];
+    let mut pending = Pending::all();
     let mut rounds = 0;
     let mut cells = 0;
     loop {
-        let filled = round(m, table, &mut stale, &mut news);
+        let filled = round(m, table, &mut pending);
         rounds += 1;
         if filled == 0 {
             return Rounds { rounds, cells };
@@ -39,7 +39,7 @@ fn run(m: &Image, table: &mut [u8]) -> Rounds
 }
 
 // The owner's cell of state 0 and the whole formula, the rounds done, the last one counted, and the cells filled.
-#[derive(Clone, Copy)]
+#[derive(Clone, Copy, Debug, PartialEq, Eq)]
 pub struct Outcome {
     pub verdict: u8,
     pub rounds: usize,
@@ -54,7 +54,7 @@ pub fn finish_table(m: &Image, table: &mut [u8]) -> Outcome
     ensures rounds_bound { result.rounds ≤ empty_cells (job_of m.now) table.old + 1 }
 {
     let done = run(m, table);
-    let verdict = owner_cell(m, table, 0, subformulas(m) - 1);
+    let verdict = owner_cell(m, table, 0, m.subformulas() - 1);
     Outcome {
         verdict,
         rounds: done.rounds,

@@ -9,5 +9,5 @@ fn main(rt: HostRuntime) -> io::Result<()> {
     let mut text = [0u8; 514];
     let n = fill(&mut rt.stdin(), &mut text)?;
     let said = rule_output(&text[..n]);
-    rt.write_all(&said.bytes[..said.length])
+    rt.write_all(said.as_slice())
 }

@@ -1,3 +1,3 @@
-pub mod WritingLaws
 pub mod WholeLaws
+pub mod WritingLaws
 pub mod AnswerLaws

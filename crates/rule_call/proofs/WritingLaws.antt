@@ -1,56 +1,40 @@
--- The lines that the array holds, as they are written one behind the other. Assumes nothing.
-use Prim.Native.Nat.{ℕ, zero, suc, ◌+◌, ◌-◌, ◌*◌, ◌<◌, ◌≤◌}
-use mathlib.Core.Path.{◌≡◌, refl, sym, ap, ◌∙◌}
-use mathlib.Core.List.{List, ◌∷◌, map}
+-- The lines as they are written one behind the other. Assumes nothing.
+use Prim.Native.Nat.{ℕ, ◌+◌, ◌*◌, ◌<◌, ◌≤◌}
+use mathlib.Core.Path.{◌≡◌, sym, ap, ◌∙◌}
+use mathlib.Core.List.{List, [], map}
 use native.Mathlib.Omega.{arith}
-use lib.ListN.{length, get_or, take, drop}
-use lib.Seq.{drop-cons}
-use Rattle.law.specs.Lists.{from, tab, flatten}
+use lib.ListN.{length, length-map, get_or-map}
+use Rattle.std.proofs.lemmas.List.{get_or_default}
+use Rattle.law.specs.Lists.{tab, flatten}
+use Rattle.law.proofs.Lists.{tab_list}
 use Rattle.text.specs.Field.{Text}
 use Rattle.text.specs.Decimal.{line, Short}
 use Rattle.text.proofs.Line.{line_length_lem}
-use Rattle.rule_lines.specs.Held.{words, held, HoldsLines}
-use Rattle.rule_lines.proofs.HeldLaws.{held_length}
+use Rattle.job.specs.Formula.{fields}
+use Rattle.job.specs.Job.{subformula}
+use Rattle.job.specs.declared.subformula.Subformula.{Subformula}
+use Rattle.job.specs.declared.subformula.Subformula.TheVariants.{Atom}
+use Rattle.job.proofs.Formula.{fields_length}
+use Rattle.rule_text.specs.Lines.{lines_text}
 use Rattle.rule_call.specs.Ruled.{ShortLines}
 
-map_from : (g : ℕ → List ℕ) (i n : ℕ) → map line (from g i n) ≡ from (λ k. line (g k)) i n
-unfolding from
-map_from g i zero = refl
-map_from g i (suc n) = ap (λ ls. line (g i) ∷ ls) (map_from g (suc i) n)
-
-module _ (m : List ℕ) where
+module _ (ls : List Subformula) where
   abbrev pub line_at : ℕ → Text
-  line_at k = line (words m k)
+  line_at k = line (fields (subformula ls k))
 
   pub line_long : (k : ℕ) → length (line_at k) ≡ 16
-  unfolding words
-  line_long k = line_length_lem (words m k)
+  line_long k = line_length_lem (fields (subformula ls k)) ∙ ap (λ n. 5 * n + 1) (fields_length (subformula ls k))
 
-  -- All lines are those that the array holds.
-  pub lines_held : (n : ℕ) → n ≡ length (held m) → flatten (tab line_at n) ≡ flatten (map line (held m))
-  unfolding held tab
-  lines_held n e = ap flatten (ap (from line_at 0) (e ∙ held_length m) ∙ sym (map_from (words m) 0 (get_or m 99 0)))
+  -- All of them are the rule's lines as bytes.
+  pub lines_all : (n : ℕ) → n ≡ length ls → flatten (tab line_at n) ≡ lines_text ls
+  unfolding lines_text subformula
+  lines_all n e =
+      ap flatten
+      (tab_list line_at n (map (λ f. line (fields f)) ls) []
+      (e ∙ sym (length-map ls (λ f. line (fields f))))
+      (λ i l. sym (get_or-map (λ f. line (fields f)) ls i (Atom 0)) ∙ get_or_default _ i _ _ l))
 
-  -- The three words of line k, as a part of the array.
-  abbrev part : ℕ → List ℕ
-  part k = take (3 * k + 3 - 3 * k) (drop (3 * k) m)
-
-  part_words : (k : ℕ) → 3 * k + 3 ≤ length m → part k ≡ words m k
-  unfolding words
-  part_words k l =
-      let three : 3 * k + 3 - 3 * k ≡ 3 = omega arith in
-      let one : suc (3 * k) ≡ 3 * k + 1 = omega arith in
-      let two : suc (3 * k + 1) ≡ 3 * k + 2 = omega arith in
-      let first = drop-cons m (3 * k) 0 (omega arith) in
-      let second = drop-cons m (3 * k + 1) 0 (omega arith) in
-      let third = drop-cons m (3 * k + 2) 0 (omega arith) in
-      simp (three, first, one, second, two, third)
-
-  module _ (is : HoldsLines m) (n : ℕ) (counted : n ≡ length (held m)) (k : ℕ) (l : k < n) where
-    pub part_here : part k ≡ words m k
-    part_here = let f = is.few in let h = held_length m in let g = is.long in part_words k (omega arith)
-
-    pub part_fits :
-        (out : Text) → ShortLines m → 16 * length (held m) ≤ length out → Short (part k) × (16 * k + 5 * length (part k) < length out)
-    unfolding words
-    part_fits out s h = rw part_here (s k (omega arith), omega arith)
+  pub line_fits :
+      (out : Text) (k : ℕ) → k < length ls → ShortLines ls → 16 * length ls ≤ length out
+      → Short (fields (subformula ls k)) × (16 * k + 5 * length (fields (subformula ls k)) < length out)
+  line_fits out k l s h = (s k l, let three = fields_length (subformula ls k) in omega arith)

@@ -1,181 +1,89 @@
--- The lines that an array holds: looking for a line, and the array behind a line that is kept. Assumes nothing.
-use Prim.Native.Nat.{ℕ, suc, ◌+◌, ◌-◌, ◌*◌, ◌<◌, ◌≤◌}
-use mathlib.Core.Path.{◌≡◌, sym, ap, ◌∙◌}
-use mathlib.Core.Bool.{Bool, true, false, ◌||◌}
-use mathlib.Core.List.{List, [], ◌∷◌, ◌++◌}
-use native.Mathlib.Nat.{zero-add}
+-- Looking for a line, and the lines behind one that is kept. Assumes nothing.
+use Prim.Native.Nat.{ℕ, ◌+◌, ◌<◌, ◌≤◌}
+use mathlib.Core.Path.{◌≡◌, refl, sym, ap, subst, ◌∙◌}
+use mathlib.Core.Bool.{Bool, true, false, not}
+use mathlib.Core.List.{List, [], ◌∷◌, ◌++◌, map}
+use native.Mathlib.Numerals.{one-add, add-one}
 use native.Mathlib.Omega.{arith}
-use lib.ListN.{length, get_or, set, length-set, length-append, get_or-append}
-use lib.Seq.{get_or-set_same, get_or-set_other, get_or_at}
 use lib.Dec.{ltb}
+use lib.ListN.{length, take, set, length-map}
+use lib.Seq.{length-take-le, take-suc-set}
 use borrow.Author.Tests.{lt-ltb, le-ltb, ltb-true, ltb-false}
-use Rattle.law.specs.Lists.{from, tab}
+use Rattle.std.proofs.lemmas.List.Sums.{prefix_len-le-length}
+use Rattle.std.specs.Prelude.{Option}
+use Rattle.std.specs.List.{position, prefix_len}
 use Rattle.law.proofs.Bool.{split, cond_true, cond_false, or_left, or_right, or_none}
-use Rattle.law.proofs.Lists.{tab_length, tab_at, tab_list}
+use Rattle.job.specs.Formula.{fields}
+use Rattle.job.specs.declared.subformula.Subformula.{Subformula}
 use Rattle.rule_text.specs.Lines.{equal}
 use Rattle.rule_text.specs.Kept.{find, keep}
-use Rattle.rule_lines.specs.Held.{words, held, HoldsLines, HoldsKept}
+use Rattle.rule_text.proofs.AddLaws.{equal_self, same_line}
+use Rattle.rule_text.proofs.KeptLaws.{map_append}
+use Rattle.rule_lines.specs.Held.{KeptAs, Finds}
 
--- Looking for a line in lines that a function gives.
-module _ (l : List ℕ) (f : ℕ → List ℕ) where
-  -- None before k is equal to it.
-  pub record Sought (n k : ℕ) : Type 0 where
-    pub inside : k ≤ n
-    pub rest : find l (tab f n) ≡ k + find l (from f k (n - k))
+-- A line is the one looked for exactly where its numbers are.
+pub same_tested : (f g : Subformula) (r : Bool) → (r ≡ true → g ≡ f) → (r ≡ false → g ≡ f → ⊥) → r ≡ equal (fields f) (fields g)
+same_tested f g r is other =
+    split r
+    (λ t. t ∙ sym (ap (λ (h : Subformula). equal (fields f) (fields h)) (is t) ∙ equal_self (fields f)))
+    (λ n. n ∙ sym (split (equal (fields f) (fields g)) (λ t. absurd (other n (same_line f g t))) (λ e. e)))
 
-  pub sought_start : (n : ℕ) → Sought n 0
-  unfolding tab
-  sought_start n =
-      let e : n - 0 ≡ n = omega arith in
-      record { inside = omega arith; rest = sym (ap (λ i. 0 + find l (from f 0 i)) e ∙ zero-add (find l (from f 0 n))) }
+module _ (f : Subformula) where
+  abbrev pub is_it : Subformula → Bool
+  is_it g = equal (fields f) (fields g)
 
-  module _ (n k : ℕ) (s : Sought n k) where
-    next_line : k < n → from f k (n - k) ≡ f k ∷ from f (suc k) (n - suc k)
-    unfolding from
-    next_line h = let e : n - k ≡ suc (n - suc k) = omega arith in rw e
+  first_place : (gs : List Subformula) → prefix_len (λ g. not (is_it g)) gs ≡ find (fields f) (map fields gs)
+  unfolding find
+  first_place [] = refl
+  first_place (g ∷ gs) =
+      split (is_it g)
+      (λ t. simp t)
+      (λ n. simp (n, one-add, first_place gs))
 
-    pub sought_here : k < n → true ≡ equal l (f k) → find l (tab f n) ≡ k
-    unfolding find
-    sought_here h e =
-        let z : k + 0 ≡ k = omega arith in
-        s.rest ∙ ap (λ ls. k + find l ls) (next_line h) ∙ rw (← e) z
+  pub found : (gs : List Subformula) (ls : List (List ℕ)) (r : Option ℕ) → map fields gs ≡ ls → r ≡ position is_it gs → Finds (fields f) ls r
+  found gs ls r held is =
+      let at = prefix_len (λ g. not (is_it g)) gs in
+      let there : find (fields f) ls ≡ at = ap (find (fields f)) (sym held) ∙ sym (first_place gs) in
+      let long : length ls ≡ length gs = ap length (sym held) ∙ length-map gs fields in
+      let few = prefix_len-le-length (λ g. not (is_it g)) gs in
+      split (ltb at (length gs))
+      (λ t.
+      let l = ltb-true at (length gs) t in
+      subst (Finds (fields f) ls) (sym (is ∙ cond_true _ _ _ t)) (sym there, omega arith))
+      (λ t.
+      let l = ltb-false at (length gs) t in
+      let none : find (fields f) ls ≡ length ls = omega arith in
+      subst (Finds (fields f) ls) (sym (is ∙ cond_false _ _ _ t)) none)
 
-    pub sought_next : k < n → false ≡ equal l (f k) → Sought n (k + 1)
-    unfolding find
-    sought_next h e =
+module _ (l : List ℕ) (ls : List (List ℕ)) (n : ℕ) where
+  pub keeps_found : n ≡ find l ls → n < length ls → KeptAs (keep l ls) n ls
+  unfolding keep
+  keeps_found e h = record { lines = sym (cond_true _ _ _ (or_left _ _ (lt-ltb _ _ (rw e at h)))); number = e }
+
+  module _ (counted : n ≡ length ls) (new : find l ls ≡ length ls) where
+    pub keeps_full : 33 ≤ n → KeptAs (keep l ls) n ls
+    unfolding keep
+    keeps_full h =
         record {
-          inside = omega arith;
-          rest =
-              let one : suc k ≡ k + 1 = omega arith in
-              let later = find l (from f (suc k) (n - suc k)) in
-              let sum : k + suc later ≡ suc k + later = omega arith in
-              s.rest
-              ∙ ap (λ ls. k + find l ls) (next_line h)
-              ∙ rw (← e) sum
-              ∙ ap (λ i. i + find l (from f i (n - i))) one;
+          lines = sym (cond_true _ _ _ (or_right (ltb (find l ls) (length ls)) _ (lt-ltb _ _ (omega arith))));
+          number = counted ∙ sym new;
         }
 
-    pub sought_none : n ≤ k → find l (tab f n) ≡ n
-    unfolding from find
-    sought_none h =
-        let i = s.inside in
-        let e : n - k ≡ 0 = omega arith in
-        s.rest ∙ rw e (omega arith)
-
--- The array behind a line that is looked for and kept.
-pub held_length : (m : List ℕ) → length (held m) ≡ get_or m 99 0
-unfolding held
-held_length m = tab_length (words m) (get_or m 99 0)
-
-module _ (m : List ℕ) (n : ℕ) (counted : n ≡ length (held m)) where
-  held_tab : held m ≡ tab (words m) n
-  unfolding held
-  held_tab = ap (tab (words m)) (sym (held_length m) ∙ sym counted)
-
-  pub found_held : (l : List ℕ) (r : ℕ) → find l (tab (words m) n) ≡ r → r ≡ find l (held m)
-  found_held l r f = sym f ∙ ap (find l) (sym held_tab)
-
-  -- A line that is there, or for which there is no room, leaves the array.
-  module _ (is : HoldsLines m) (l : List ℕ) (r : ℕ) (e : r ≡ find l (held m)) where
-    abbrev old : Bool
-    old = ltb (find l (held m)) (length (held m))
-
-    abbrev full : Bool
-    full = ltb 32 (length (held m))
-
-    stays : (old || full) ≡ true → HoldsKept (keep l (held m)) r m
+    pub keeps_new : (after : List (List ℕ)) → n < 33 → after ≡ ls ++ (l ∷ []) → KeptAs (keep l ls) n after
     unfolding keep
-    stays t = record { holds = is; lines = sym (cond_true _ _ _ t); number = e }
-
-    pub keeps_found : r < n → HoldsKept (keep l (held m)) r m
-    keeps_found h = stays (or_left old full (lt-ltb (find l (held m)) (length (held m)) (rw (← counted, ← e) h)))
-
-    pub keeps_full : n ≡ 33 → HoldsKept (keep l (held m)) r m
-    keeps_full h = stays (or_right old full (lt-ltb 32 (length (held m)) (rw (← counted) (omega arith))))
-
-    new_kept : n ≤ r → n ≤ 32 → (old || full) ≡ false
-    new_kept h g =
-        or_none old full (le-ltb (find l (held m)) (length (held m)) (rw (← counted, ← e) h)) (le-ltb 32 (length (held m)) (rw (← counted) g))
-
-  -- A new line: its words behind the others, and one line more.
-  module _ (is : HoldsLines m) (kind a b r : ℕ) (e : r ≡ find (kind ∷ a ∷ b ∷ []) (held m)) (new : n ≤ r) (room : n ≡ 33 → ⊥) where
-    abbrev line : List ℕ
-    line = kind ∷ a ∷ b ∷ []
-
-    abbrev one : List ℕ
-    one = set m (3 * n) kind
-
-    abbrev two : List ℕ
-    two = set one (3 * n + 1) a
-
-    abbrev three : List ℕ
-    three = set two (3 * n + 2) b
-
-    abbrev longer : List ℕ
-    longer = set three 99 (n + 1)
-
-    few : n ≤ 32
-    few = let h = is.few in let l = held_length m in omega arith
-
-    word_below : (j : ℕ) → j < 3 * n → get_or longer j 0 ≡ get_or m j 0
-    word_below j h =
-        let f = few in
-        get_or-set_other three 99 j (n + 1) 0 (λ x. omega arith)
-        ∙ get_or-set_other two (3 * n + 2) j b 0 (λ x. omega arith)
-        ∙ get_or-set_other one (3 * n + 1) j a 0 (λ x. omega arith)
-        ∙ get_or-set_other m (3 * n) j kind 0 (λ x. omega arith)
-
-    words_below : (k : ℕ) → k < n → words longer k ≡ words m k
-    unfolding words
-    words_below k h = rw (word_below (3 * k) (omega arith), word_below (3 * k + 1) (omega arith), word_below (3 * k + 2) (omega arith))
-
-    -- an index of the array is one of each later array
-    inside : (j : ℕ) → j < 100 → (j < length m) × (j < length one) × (j < length two) × (j < length three)
-    inside j h = let l = is.long in simp length-set (omega arith, omega arith, omega arith, omega arith)
-
-    words_new : words longer n ≡ line
-    unfolding words
-    words_new =
-        let f = few in
-        rw (
-          get_or-set_other three 99 (3 * n) (n + 1) 0 (λ x. omega arith),
-          get_or-set_other two (3 * n + 2) (3 * n) b 0 (λ x. omega arith),
-          get_or-set_other one (3 * n + 1) (3 * n) a 0 (λ x. omega arith),
-          get_or-set_same m (3 * n) kind 0 (inside (3 * n) (omega arith)).0,
-          get_or-set_other three 99 (3 * n + 1) (n + 1) 0 (λ x. omega arith),
-          get_or-set_other two (3 * n + 2) (3 * n + 1) b 0 (λ x. omega arith),
-          get_or-set_same one (3 * n + 1) a 0 (inside (3 * n + 1) (omega arith)).1,
-          get_or-set_other three 99 (3 * n + 2) (n + 1) 0 (λ x. omega arith),
-          get_or-set_same two (3 * n + 2) b 0 (inside (3 * n + 2) (omega arith)).2,
-        )
-
-    count_new : get_or longer 99 0 ≡ n + 1
-    count_new = get_or-set_same three 99 (n + 1) 0 (inside 99 (omega arith)).3
-
-    at_new : (i : ℕ) → i < n + 1 → words longer i ≡ get_or (held m ++ (line ∷ [])) i []
-    at_new i h =
-        split (ltb i n)
-        (λ t.
-        let l = ltb-true i n t in
-        words_below i l
-        ∙ sym (get_or-append (held m) (line ∷ []) [] i (rw (← counted) l) ∙ ap (λ ls. get_or ls i []) held_tab ∙ tab_at (words m) n i [] l))
-        (λ t.
-        let l = ltb-false i n t in
-        let last : i ≡ n = omega arith in
-        ap (words longer) last ∙ words_new ∙ sym (get_or_at (held m) line [] [] i (sym counted ∙ sym last)))
-
-    held_new : held longer ≡ held m ++ (line ∷ [])
-    unfolding held
-    held_new =
-        let long : n + 1 ≡ length (held m ++ (line ∷ [])) = rw (length-append (held m) (line ∷ []), ← counted) in
-        rw count_new (tab_list (words longer) (n + 1) (held m ++ (line ∷ [])) [] long (λ i h. at_new i (rw (← long) at h)))
-
-    pub keeps_new : HoldsKept (keep line (held m)) r longer
-    unfolding keep
-    keeps_new =
-        let f = few in
+    keeps_new after h e =
         record {
-          holds = record { long = simp length-set is.long; few = rw count_new (omega arith) };
-          lines = held_new ∙ sym (cond_false _ _ _ (new_kept is line r e new f));
-          number = e;
+          lines = e ∙ sym (cond_false _ _ _ (or_none _ _ (le-ltb (find l ls) (length ls) (omega arith)) (le-ltb 32 (length ls) (omega arith))));
+          number = counted ∙ sym new;
         }
+
+-- The lines that the first n of an array are.
+module _ (lines : List Subformula) (n : ℕ) (ls : List (List ℕ)) (held : map fields (take n lines) ≡ ls) where
+  pub lines_counted : n ≤ length lines → n ≡ length ls
+  lines_counted inside = sym (ap length (sym held) ∙ length-map (take n lines) fields ∙ length-take-le n lines inside)
+
+  pub one_more : (f : Subformula) → n < length lines → map fields (take (n + 1) (set lines n f)) ≡ ls ++ (fields f ∷ [])
+  one_more f inside =
+      ap (map fields) (ap (λ k. take k (set lines n f)) (add-one n) ∙ take-suc-set lines n f inside)
+      ∙ map_append (take n lines) f
+      ∙ ap (λ ks. ks ++ (fields f ∷ [])) held

@@ -1,41 +1,38 @@
 // The lines that a binary operator adds: `f | g` is not(not f and not g), and `f => g` is not(f and not g).
-ghost use Rattle.std.specs.Prelude.{◌≡◌};
-ghost use Rattle.rule_lines.specs.Held.{held, HoldsLines, HoldsKept};
+ghost use Rattle.rule_lines.specs.Held.{KeptAs};
 ghost use Rattle.rule_lines.specs.Joining.{left_kept, not_both, join_kept};
 
-use crate::lines::keep;
+use crate::lines::Lines;
+use job::subformula::Subformula;
 use rule_text::token::Operator;
 
-// The left operand's line, once the operator is known and before the right operand is read: `|` has it negated.
-pub fn keep_left(lines: &mut [usize], o: Operator, a: usize) -> usize
-    requires { HoldsLines lines.old }
-    ensures { HoldsKept (left_kept o a (held lines.old)) result lines.new }
-{
-    match o {
-        Operator::And => a,
-        Operator::Or => keep(lines, 2, a, 0),
-        Operator::Implies => a,
+impl Lines {
+    // The left operand's line, once the operator is known and before the right operand is read: `|` has it negated.
+    pub fn keep_left(&mut self, o: Operator, a: usize) -> usize
+        ensures { KeptAs (left_kept o a self.old) result self.new }
+    {
+        match o {
+            Operator::And | Operator::Implies => a,
+            Operator::Or => self.keep(Subformula::Not(a)),
+        }
     }
-}
 
-// Not(a and not b).
-fn keep_not_both(lines: &mut [usize], a: usize, b: usize) -> usize
-    requires { HoldsLines lines.old }
-    ensures { HoldsKept (not_both a b (held lines.old)) result lines.new }
-{
-    let negated = keep(lines, 2, b, 0);
-    let both = keep(lines, 3, a, negated);
-    keep(lines, 2, both, 0)
-}
+    // Not(a and not b).
+    fn keep_not_both(&mut self, a: usize, b: usize) -> usize
+        ensures { KeptAs (not_both a b self.old) result self.new }
+    {
+        let negated = self.keep(Subformula::Not(b));
+        let both = self.keep(Subformula::And(a, negated));
+        self.keep(Subformula::Not(both))
+    }
 
-// The operator's own lines, behind those of both operands.
-pub fn keep_joined(lines: &mut [usize], o: Operator, a: usize, b: usize) -> usize
-    requires { HoldsLines lines.old }
-    ensures { HoldsKept (join_kept o a b (held lines.old)) result lines.new }
-{
-    match o {
-        Operator::And => keep(lines, 3, a, b),
-        Operator::Or => keep_not_both(lines, a, b),
-        Operator::Implies => keep_not_both(lines, a, b),
+    // The operator's own lines, behind those of both operands.
+    pub fn keep_joined(&mut self, o: Operator, a: usize, b: usize) -> usize
+        ensures { KeptAs (join_kept o a b self.old) result self.new }
+    {
+        match o {
+            Operator::And => self.keep(Subformula::And(a, b)),
+            Operator::Or | Operator::Implies => self.keep_not_both(a, b),
+        }
     }
 }

@@ -1,5 +1,4 @@
-// The lines of a rule while it is read: kind, a and b of each in one lent array, a line equal to an earlier one kept once. At most 33 lines
-// are kept, since more than 32 are refused.
+// The lines of a rule while it is read, a line equal to an earlier one kept once. At most 33 lines are kept, since more than 32 are refused.
 #![tactic(auto)]
 
 pub mod joining;

@@ -1,60 +1,67 @@
-// Lines in a lent array of 100 words: line k is the three words from 3 k on, the last word is how many lines there are.
-ghost use Rattle.std.specs.Prelude.{◌≡◌, [], ◌∷◌, ◌<◌, ◌≤◌, length};
-ghost use Rattle.rule_text.specs.Lines.{equal};
+// The lines of a rule, in the order in which they are kept. In a contract they are the numbers of each.
+ghost use Rattle.std.specs.Prelude.{◌≡◌, ℕ, List, [], ◌≤◌, map, length, take};
+ghost use Rattle.job.specs.Formula.{fields};
 ghost use Rattle.rule_text.specs.Kept as kept;
-ghost use Rattle.rule_lines.specs.Held.{words, held, HoldsLines, HoldsKept};
+ghost use Rattle.rule_lines.specs.Held.{Finds, KeptAs};
 
-pub fn count(lines: &[usize]) -> usize
-    requires { HoldsLines lines.now }
-    ensures { (result ≡ length (held lines.now)) × (result ≤ 33) }
-{
-    lines[99]
+use job::subformula::Subformula;
+use std::marker::Model;
+
+#[derive(Drop)]
+pub struct Lines {
+    kept: [Subformula; 33],
+    count: usize,
 }
 
-// Whether line k is this one.
-fn is_line(lines: &[usize], k: usize, kind: usize, a: usize, b: usize) -> bool
-    requires { HoldsLines lines.now × (k < 33) }
-    ensures { result ≡ equal (kind ∷ a ∷ b ∷ []) (words lines.now k) }
-{
-    if kind != lines[3 * k] {
-        return false;
-    }
-    if a != lines[3 * k + 1] {
-        return false;
-    }
-    b == lines[3 * k + 2]
+impl Model for Lines {
+    ghost Value = { List (List ℕ) };
+
+    ghost view = { λ l. map fields (take l.count l.kept) };
+
+    ghost invariant = { λ l. (length l.kept ≡ 33) × (l.count ≤ 33) };
 }
 
-// The number of the first line that is this one, how many lines there are if none is.
-fn find(lines: &[usize], kind: usize, a: usize, b: usize) -> usize
-    requires { HoldsLines lines.now }
-    ensures { (result ≡ kept.find (kind ∷ a ∷ b ∷ []) (held lines.now)) × (result ≤ 33) }
-{
-    let n = count(lines);
-    for k in 0..n {
-        if is_line(lines, k, kind, a, b) {
-            return k;
+impl Lines {
+    pub fn new() -> Self
+        ensures { result ≡ [] }
+    {
+        Lines {
+            kept: [Subformula::Atom(0); 33],
+            count: 0,
         }
     }
-    n
-}
 
-// Keeps a line, if it is new and there is room, and returns its number.
-pub fn keep(lines: &mut [usize], kind: usize, a: usize, b: usize) -> usize
-    requires { HoldsLines lines.old }
-    ensures { HoldsKept (kept.keep (kind ∷ a ∷ b ∷ []) (held lines.old)) result lines.new }
-{
-    let n = count(lines);
-    let found = find(lines, kind, a, b);
-    if found < n {
-        return found;
+    pub fn count(&self) -> usize
+        ensures { (result ≡ length self.now) × (result ≤ 33) }
+    {
+        self.count
     }
-    if n == 33 {
-        return found;
+
+    pub fn as_slice(&self) -> &[Subformula]
+        ensures { map fields result.now ≡ self.now }
+    {
+        &self.kept[..self.count]
     }
-    lines[3 * n] = kind;
-    lines[3 * n + 1] = a;
-    lines[3 * n + 2] = b;
-    lines[99] = n + 1;
-    found
+
+    // The number of the first line that is this one.
+    fn find(&self, f: Subformula) -> Option<usize>
+        ensures { Finds (fields f) self.now result }
+    {
+        self.as_slice().iter().position(|g| *g == f)
+    }
+
+    // Keeps a line, if it is new and there is room, and returns its number.
+    pub fn keep(&mut self, f: Subformula) -> usize
+        ensures { KeptAs (kept.keep (fields f) self.old) result self.new }
+    {
+        if let Some(k) = self.find(f) {
+            return k;
+        }
+        let number = self.count;
+        if number < 33 {
+            self.kept[number] = f;
+            self.count += 1;
+        }
+        number
+    }
 }

@@ -1,5 +1,5 @@
 -- What is printed, from what the call answers and leaves in the bytes behind the first line. Assumes nothing.
-use Prim.Native.Nat.{ℕ, ◌+◌, ◌-◌, ◌*◌, ◌<◌, ◌≤◌}
+use Prim.Native.Nat.{ℕ, ◌+◌, ◌*◌, ◌<◌, ◌≤◌}
 use mathlib.Core.Path.{◌≡◌, refl, ap, ap₂, ◌∙◌}
 use mathlib.Core.Bool.{Bool}
 use mathlib.Core.List.{List, [], ◌∷◌, ◌++◌}
@@ -7,7 +7,7 @@ use mathlib.Core.Option as opt
 use native.Mathlib.Omega.{arith}
 use borrow.Author.Tests.{leb-true}
 use lib.ListN.{length, take, drop, get_or}
-use lib.Seq.{sets, sets-eq, length-sets, take-add, take_at, drop_at}
+use lib.Seq.{sets, sets-eq, take-add, take_at, drop_at}
 use lib.Dec.{leb}
 use Rattle.law.specs.Lists.{every}
 use Rattle.text.specs.Field.{Text}
@@ -66,19 +66,17 @@ pub record Called (x out ns : Text) : Type 0 where
   pub long : length out ≡ 523
 
 pub called :
-    (x out ns : Text) (n : ℕ) (told : Answer)
-    → take n x ≡ typed x
-    → told ≡ rule_answer (take (n - 0) x) buffer
-    → drop 11 out ≡ rule_buffer (take (n - 0) x) buffer
+    (x y out ns : Text) (told : Answer)
+    → y ≡ typed x
+    → told ≡ rule_answer y buffer
+    → drop 11 out ≡ rule_buffer y buffer
     → ns ≡ number_told told ∷ lines_told told ∷ []
     → length out ≡ 523
     → Called x out ns
-called x out ns n told is_typed answer left said long =
-    let all : n - 0 ≡ n = omega arith in
-    let text : take (n - 0) x ≡ typed x = ap (λ k. take k x) all ∙ is_typed in
+called x y out ns told is_typed answer left said long =
     record {
-      numbers_are = said ∙ ap (λ a. number_told a ∷ lines_told a ∷ []) (answer ∙ ap (λ t. rule_answer t buffer) text);
-      left = left ∙ ap (λ t. rule_buffer t buffer) text;
+      numbers_are = said ∙ ap (λ a. number_told a ∷ lines_told a ∷ []) (answer ∙ ap (λ t. rule_answer t buffer) is_typed);
+      left = left ∙ ap (λ t. rule_buffer t buffer) is_typed;
       long = long;
     }
 
@@ -98,14 +96,10 @@ module _ (x out ns : Text) (c : Called x out ns) where
   pub output_right :
       (after : Text)
       → after ≡ sets out 0 (line ns)
-      → (take (11 + 16 * get_or ns 1 0) after ≡ rule_output x) × (11 + 16 * get_or ns 1 0 ≤ length after)
+      → take (11 + 16 * get_or ns 1 0) after ≡ rule_output x
   unfolding rule_output
   output_right after written =
       let first : length (line ns) ≡ 11 = line_length_lem ns ∙ ap (λ l. 5 * length l + 1) c.numbers_are in
-      let room : length after ≡ 523 = ap length written ∙ length-sets out 0 (line ns) ∙ c.long in
-      let few = lines_few in (
-        ap (take (11 + 16 * get_or ns 1 0)) written
-            ∙ first_behind (line ns) out (16 * get_or ns 1 0) first (omega (arith, c.long))
-            ∙ ap₂ (λ l r. l ++ r) (ap line c.numbers_are) (ap₂ (λ n b. take (16 * n) b) lines_are c.left),
-        omega arith,
-      )
+      ap (take (11 + 16 * get_or ns 1 0)) written
+      ∙ first_behind (line ns) out (16 * get_or ns 1 0) first (omega (arith, c.long))
+      ∙ ap₂ (λ l r. l ++ r) (ap line c.numbers_are) (ap₂ (λ n b. take (16 * n) b) lines_are c.left)

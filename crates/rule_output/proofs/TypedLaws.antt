@@ -1,18 +1,12 @@
 -- The typed text, by whether the input ends in byte 10. Assumes nothing.
 use Prim.Native.Nat.{◌-◌, ◌≤◌}
-use mathlib.Core.Path.{◌≡◌, refl}
-use mathlib.Core.List.{[], ◌∷◌}
+use mathlib.Core.Path.{◌≡◌}
 use native.Mathlib.Omega.{arith}
 use borrow.Author.Tests.{eq-eqb, ne_eqb}
 use lib.ListN.{length, take, get_or}
 use lib.Seq.{take-length}
 use Rattle.text.specs.Field.{Text}
 use Rattle.rule_output.specs.RuleOutput.{typed}
-
-pub typed_empty : (x : Text) → length x ≡ 0 → (take 0 x ≡ typed x) × (0 ≤ length x)
-unfolding typed
-typed_empty [] e = (refl, omega arith)
-typed_empty (b ∷ bs) e = absurd (omega arith)
 
 module _ (x : Text) where
   pub typed_ended : get_or x (length x - 1) 0 ≡ 10 → (take (length x - 1) x ≡ typed x) × (length x - 1 ≤ length x)

@@ -1,37 +1,29 @@
 // What the program rule prints of its input: the answer of the call rule as a line of two numbers, and behind it the lines that the call writes.
 #![tactic(auto)]
 
-ghost use Rattle.std.specs.Prelude.{◌≡◌, [], ◌∷◌, ◌≤◌, length, take, drop};
+ghost use Rattle.std.specs.Prelude.{◌≡◌, [], ◌∷◌, length, drop};
 ghost use Rattle.rule_text.specs.RuleCall.{rule_answer, rule_buffer};
 ghost use Rattle.rule_call.specs.Ruled.{ruled_told};
 ghost use Rattle.rule_output.specs.RuleOutput.{buffer, typed, number_told, lines_told, rule_output};
 
-use rule_call::rule::{Ruled, rule};
+use job::refusal::Refusal;
+use output::Output;
+use rule_call::rule::rule;
 use text::decimal::write_line;
 
-// The bytes to print: the first `length` of these.
-#[derive(Drop)]
-pub struct Output {
-    pub bytes: [u8; 523],
-    pub length: usize,
-}
-
-// How many bytes of the input are the text.
-fn typed_length(input: &[u8]) -> usize
-    ensures { (take result input.now ≡ typed input.now) × (result ≤ length input.now) }
+// The input without one final newline.
+#[tactic(auto, unfolding(crate::specs::RuleOutput::typed))]
+fn typed(input: &[u8]) -> &[u8]
+    ensures { result.now ≡ typed input.now }
 {
-    let n = input.len();
-    if n == 0 {
-        return 0;
+    match input {
+        [text @ .., b'\n'] => text,
+        _ => input,
     }
-    if input[n - 1] == 10 {
-        return n - 1;
-    }
-    n
 }
 
 // The call rule, with all bytes behind the first line as its buffer.
-fn rule_behind(text: &[u8], out: &mut [u8]) -> Ruled
+fn rule_behind(text: &[u8], out: &mut [u8]) -> Result<usize, Refusal>
     requires { (length out.old ≡ 523) × (drop 11 out.old ≡ buffer) }
     ensures told { ruled_told result ≡ rule_answer text.now buffer }
     ensures left { drop 11 out.new ≡ rule_buffer text.now buffer }
@@ -40,27 +32,23 @@ fn rule_behind(text: &[u8], out: &mut [u8]) -> Ruled
 }
 
 // The two numbers of the first line.
-fn first_numbers(r: Ruled) -> [usize; 2]
-    ensures { result ≡ number_told (ruled_told r) ∷ lines_told (ruled_told r) ∷ [] }
+#[tactic(auto, unfolding(crate::specs::RuleOutput::number_told, crate::specs::RuleOutput::lines_told, rule_call::specs::Ruled::ruled_told))]
+fn first_numbers(told: Result<usize, Refusal>) -> [usize; 2]
+    ensures { result ≡ number_told (ruled_told told) ∷ lines_told (ruled_told told) ∷ [] }
 {
-    match r {
-        Ruled::Accepted(lines) => [0, lines],
-        Ruled::Refused(why) => [why.number as usize, 0],
+    match told {
+        Ok(lines) => [0, lines],
+        Err(why) => [usize::from(why.number()), 0],
     }
 }
 
 // All that is printed.
-pub fn rule_output(input: &[u8]) -> Output
-    ensures right { take result.length result.bytes ≡ rule_output input.now }
-    ensures inside { result.length ≤ length result.bytes }
+pub fn rule_output(input: &[u8]) -> Output<523>
+    ensures { result ≡ rule_output input.now }
 {
-    let n = typed_length(input);
-    let mut bytes = [10u8; 523];
-    let told = rule_behind(&input[0..n], &mut bytes);
+    let mut bytes = [b'\n'; 523];
+    let told = rule_behind(typed(input), &mut bytes);
     let numbers = first_numbers(told);
     write_line(&mut bytes, 0, &numbers);
-    Output {
-        bytes: bytes,
-        length: 11 + 16 * numbers[1],
-    }
+    Output::new(bytes, 11 + 16 * numbers[1])
 }

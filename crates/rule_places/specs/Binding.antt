@@ -1,15 +1,8 @@
--- The table of binary operators, by the grammar's strengths and groupings. Assumes nothing.
+-- The bindings of the binary operators, by the grammar's strengths and groupings. Assumes nothing.
 use Rattle.std.specs.Prelude.{ℕ, suc, cond}
 use Rattle.rule_text.specs.Grammar.{strength, groups_left}
 use Rattle.rule_text.specs.declared.token.Operator.{Operator}
-use Rattle.rule_text.specs.declared.token.Operator.TheVariants.{And, Or, Implies}
 use Rattle.rule_places.specs.declared.binding.Binding.{Binding}
-
--- An operator's line in the table.
-unfoldable pub row_of : Operator → ℕ
-row_of And = 0
-row_of Or = 1
-row_of Implies = 2
 
 unfoldable pub binding_of : Operator → Binding
 binding_of o = record { strength = strength o; leftward = groups_left o }

@@ -1,44 +1,42 @@
--- What stands at a place of the text, in terms of the tokens from there on. Assumes nothing.
-use Rattle.std.specs.Prelude.{ℕ, ◌<◌, ◌≤◌, ◌≡◌, Bool, false, List, [], ◌∷◌, length, drop, eqb}
+-- What stands at the start of a text, in terms of its tokens. Assumes nothing.
+use Rattle.std.specs.Prelude.{ℕ, ◌≤◌, ◌≡◌, Bool, false, List, [], ◌∷◌, Option, MatchOption}
+use Rattle.std.specs.Borrow.{Bor}
 use Rattle.text.specs.Field.{Text}
+use Rattle.rule_text.specs.Token.{same_mark}
 use Rattle.rule_text.specs.Scan.{tokens}
 use Rattle.rule_text.specs.Grammar.{strength, right_level}
+use Rattle.rule_text.specs.declared.token.Mark.{Mark as MarkKind}
+use Rattle.rule_text.specs.declared.token.Operator.{Operator as BinaryOperator}
 use Rattle.rule_text.specs.declared.token.Token.{Token}
 use Rattle.rule_text.specs.declared.token.Token.TheVariants.{Atom, Prefix, Operator, Mark, Unknown}
 use Rattle.rule_text.proofs.Levels.{Ends}
-use Rattle.rule_places.specs.declared.places.Place.{Place}
-use Rattle.rule_places.specs.declared.places.Place.TheVariants.{Behind, Missing}
+use Rattle.scanner.specs.Scanned.{Left}
 use Rattle.rule_places.specs.declared.places.Infix.{Infix}
-use Rattle.rule_places.specs.declared.places.Following.{Following}
-use Rattle.rule_places.specs.declared.places.Following.TheVariants.{By, Nothing}
 
--- The first of the tokens is the mark c.
-unfoldable pub starts_with_mark : ℕ → List Token → Bool
-starts_with_mark c [] = false
-starts_with_mark c (Atom j ∷ ts) = false
-starts_with_mark c (Prefix p ∷ ts) = false
-starts_with_mark c (Operator o ∷ ts) = false
-starts_with_mark c (Mark d ∷ ts) = eqb d c
-starts_with_mark c (Unknown ∷ ts) = false
+-- The first of the tokens is the mark m.
+unfoldable pub starts_with_mark : MarkKind → List Token → Bool
+starts_with_mark m [] = false
+starts_with_mark m (Atom j ∷ ts) = false
+starts_with_mark m (Prefix p ∷ ts) = false
+starts_with_mark m (Operator o ∷ ts) = false
+starts_with_mark m (Mark n ∷ ts) = same_mark n m
+starts_with_mark m (Unknown ∷ ts) = false
 
--- The tokens from `at` on are this one and those from `next` on, a place further on.
-pub record Passes (x : Text) (at : ℕ) (t : Token) (next : ℕ) : Type 0 where
-  pub first : tokens (drop at x) ≡ t ∷ tokens (drop next x)
-  pub later : at < next
-  pub inside : next ≤ length x
+-- The tokens of x are this one and those of y, which is left of x behind at least a byte.
+pub record Passes (x : Text) (t : Token) (y : Text) : Type 0 where
+  pub first : tokens x ≡ t ∷ tokens y
+  pub left : Left 1 x y
 
--- The mark stands at the place, or another token or none does.
-unfoldable pub Marked : Text → ℕ → ℕ → Place → Type 0
-Marked x at c (Behind next) = Passes x at (Mark c) next
-Marked x at c Missing = starts_with_mark c (tokens (drop at x)) ≡ false
+-- The mark stands first, or another token or none does.
+abbrev pub Marked : Text → MarkKind → Option (Bor Text) → Type 0
+Marked x m r = MatchOption r (starts_with_mark m (tokens x) ≡ false) (λ y. Passes x (Mark m) y.now)
 
--- The operator that stands at a place, strong enough, with the level of its right operand and the place behind it.
-pub record Infixes (x : Text) (at least : ℕ) (i : Infix) : Type 0 where
-  pub passes : Passes x at (Operator i.operator) i.behind
-  pub strong : least ≤ strength i.operator
-  pub level : i.right ≡ right_level i.operator
+-- The operator that stands first, strong enough, with the level of its right operand and the text behind it.
+pub record Infixes (x : Text) (least : ℕ) (o : BinaryOperator) (right : ℕ) (y : Text) : Type 0 where
+  pub passes : Passes x (Operator o) y
+  pub strong : least ≤ strength o
+  pub level : right ≡ right_level o
 
--- An operator follows that is at least so strong, or none does.
-unfoldable pub Follows : Text → ℕ → ℕ → Following → Type 0
-Follows x at least (By i) = Infixes x at least i
-Follows x at least Nothing = Ends least (tokens (drop at x))
+-- An operator stands first that is at least so strong, or none does.
+abbrev pub Follows : Text → ℕ → Option Infix → Type 0
+Follows x least r = MatchOption r (Ends least (tokens x)) (λ i. Infixes x least i.operator i.right i.behind.now)

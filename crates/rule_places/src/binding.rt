@@ -1,55 +1,44 @@
 // How strongly the binary operators bind, and to which side they group.
 ghost use Rattle.std.specs.Prelude.{◌≡◌, ◌≤◌};
-ghost use Rattle.rule_places.specs.Binding.{row_of, binding_of, right_of};
+ghost use Rattle.rule_places.specs.Binding.{binding_of, right_of};
 
 use rule_text::token::Operator;
 
-#[derive(Clone, Copy)]
+#[derive(Clone, Copy, Debug, PartialEq, Eq)]
 pub struct Binding {
     pub strength: usize,
     pub leftward: bool,
 }
 
-// `&`, `|`, `=>`
-const BINDINGS: [Binding; 3] = [
-    Binding {
-        strength: 3,
-        leftward: true,
-    },
-    Binding {
-        strength: 2,
-        leftward: true,
-    },
-    Binding {
-        strength: 1,
-        leftward: false,
-    },
-];
-
-fn row(o: Operator) -> usize
-    ensures { result ≡ row_of o }
-{
-    match o {
-        Operator::And => 0,
-        Operator::Or => 1,
-        Operator::Implies => 2,
-    }
-}
-
-// The operator's line of the table.
+#[tactic(auto, unfolding(rule_text::specs::Grammar::strength, rule_text::specs::Grammar::groups_left, crate::specs::Binding::binding_of))]
 pub fn binding_of(o: Operator) -> Binding
     ensures { result ≡ binding_of o }
 {
-    BINDINGS[row(o)]
+    match o {
+        Operator::And => Binding {
+            strength: 3,
+            leftward: true,
+        },
+        Operator::Or => Binding {
+            strength: 2,
+            leftward: true,
+        },
+        Operator::Implies => Binding {
+            strength: 1,
+            leftward: false,
+        },
+    }
 }
 
 // The least strength of the operators in the right operand: a greater one than its own where the operator groups to the left.
+#[tactic(auto, unfolding(crate::specs::Binding::right_of))]
 pub fn right_level(b: Binding) -> usize
     requires { b.strength ≤ 3 }
     ensures { result ≡ right_of b }
 {
     if b.leftward {
-        return b.strength + 1;
+        b.strength + 1
+    } else {
+        b.strength
     }
-    b.strength
 }

@@ -1,64 +1,45 @@
-// What stands at a place of the text: a mark that is expected there, or a binary operator that is strong enough.
-ghost use Rattle.std.specs.Prelude.{◌≤◌, length};
+// What stands at the start of a text: a mark that is expected there, or a binary operator that is strong enough.
 ghost use Rattle.rule_places.specs.Places.{Marked, Follows};
 
 use crate::binding::{binding_of, right_level};
-use rule_text::token::{Operator, Token};
-use scanner::scan::token_at;
+use rule_text::token::{Mark, Operator, Token};
+use scanner::scan::first_token;
 
-#[derive(Clone, Copy)]
-pub enum Place {
-    Behind(usize),
-    Missing,
-}
-
-// The place behind the mark c, if that is the next token.
-pub fn mark_at(text: &[u8], at: usize, c: u8) -> Place
-    requires { at ≤ length text.now }
-    ensures { Marked text.now at c result }
+// The text behind the mark, if that is the first token.
+pub fn behind_mark(text: &[u8], mark: Mark) -> Option<&[u8]>
+    ensures { Marked text.now mark result }
 {
-    let s = token_at(text, at);
-    let token = s.token;
-    let Token::Mark(d) = token else {
-        return Place::Missing;
-    };
-    if d != c {
-        return Place::Missing;
+    let first = first_token(text);
+    if first.token == Token::Mark(mark) {
+        Some(first.behind)
+    } else {
+        None
     }
-    Place::Behind(s.behind)
 }
 
-// A binary operator, the least strength of the operators in its right operand, and the place behind it.
+// A binary operator, the least strength of the operators in its right operand, and the text behind it.
 #[derive(Clone, Copy)]
-pub struct Infix {
+pub struct Infix<'a> {
     pub operator: Operator,
     pub right: usize,
-    pub behind: usize,
+    pub behind: &'a [u8],
 }
 
-#[derive(Clone, Copy)]
-pub enum Following {
-    By(Infix),
-    Nothing,
-}
-
-// The operator that is the next token, if it is at least so strong.
-pub fn operator_at(text: &[u8], at: usize, least: usize) -> Following
-    requires { at ≤ length text.now }
-    ensures { Follows text.now at least result }
+// The operator that is the first token, if it is at least so strong.
+pub fn first_operator(text: &[u8], least: usize) -> Option<Infix<'_>>
+    ensures { Follows text.now least result }
 {
-    let s = token_at(text, at);
-    let token = s.token;
-    let Token::Operator(operator) = token else {
-        return Following::Nothing;
+    let first = first_token(text);
+    let Token::Operator(operator) = first.token else {
+        return None;
     };
     let b = binding_of(operator);
     if b.strength < least {
-        return Following::Nothing;
+        return None;
     }
-    Following::By(Infix {
+    Some(Infix {
         operator,
         right: right_level(b),
-        behind: s.behind,
+        behind: first.behind,
     })
 }

@@ -1,103 +1,77 @@
 -- Reading a part of a rule, in general: what comes of it goes along with the parse. Assumes nothing.
-use Prim.Native.Nat.{ℕ, ◌≤◌}
+use Prim.Native.Nat.{ℕ, ◌+◌, ◌≤◌}
 use mathlib.Core.Path.{◌≡◌, refl, sym, ap, subst}
 use mathlib.Core.List.{List}
-use native.Mathlib.Nat.{le_trans}
-use lib.ListN.{length}
+use Rattle.std.proofs.Common.{Some, None}
+use Rattle.std.specs.Prelude.{Option}
 use Rattle.text.specs.Field.{Text}
 use Rattle.rule_text.specs.Tree.{Tree}
 use Rattle.rule_text.specs.Lines.{rewritten}
 use Rattle.rule_text.specs.Kept.{kept}
+use Rattle.rule_text.specs.Scan.{tokens}
 use Rattle.rule_text.specs.Parse.{Parse, none, found, and_then}
 use Rattle.rule_text.specs.declared.token.Token.{Token}
-use Rattle.rule_lines.specs.Held.{HoldsKept}
-use Rattle.rule_places.proofs.PlaceLaws.{tokens_from}
+use Rattle.scanner.specs.Scanned.{Left}
+use Rattle.scanner.proofs.ScanLaws.{left_then}
+use Rattle.rule_lines.specs.Held.{KeptAs}
 use Rattle.rule_reader.specs.Reads.{ReadsAs}
-use Rattle.rule_reader.specs.declared.parse.Part.{Part}
-use Rattle.rule_reader.specs.declared.parse.Operand.{Operand}
-use Rattle.rule_reader.specs.declared.parse.Operand.TheVariants.{Found, Missing}
 
--- A part was found not before `from`: the parse up to the place behind it, and the lines that are left.
-pub record PartRead (x : Text) (from : ℕ) (ls : List (List ℕ)) (p : Parse) (q : Part) (after : List ℕ) : Type 0 where
+-- A part was read behind at least n bytes: the parse up to what is left, and the lines.
+pub record PartRead (x : Text) (n : ℕ) (ls : List (List ℕ)) (p : Parse) (line : ℕ) (y : Text) (after : List (List ℕ)) : Type 0 where
   pub tree : Tree
-  pub parses : p ≡ found tree (tokens_from x q.next)
-  pub later : from ≤ q.next
-  pub inside : q.next ≤ length x
-  pub leaves : HoldsKept (kept (rewritten tree) ls) q.line after
+  pub parses : p ≡ found tree (tokens y)
+  pub left : Left n x y
+  pub leaves : KeptAs (kept (rewritten tree) ls) line after
 
-module _ (x : Text) (from : ℕ) (ls : List (List ℕ)) where
-  pub reads_is : (p q : Parse) (r : Operand) (after : List ℕ) → p ≡ q → ReadsAs x from q ls r after → ReadsAs x from p ls r after
-  reads_is p q r after e = subst (λ i. ReadsAs x from i ls r after) (sym e)
+module _ (x : Text) (n : ℕ) (ls : List (List ℕ)) where
+  pub reads_is : (p q : Parse) (r : Option ℕ) (y : Text) (after : List (List ℕ)) → p ≡ q → ReadsAs x n q ls r y after → ReadsAs x n p ls r y after
+  reads_is p q r y after e = subst (λ i. ReadsAs x n i ls r y after) (sym e)
 
-  pub reads_none : (p : Parse) (after : List ℕ) → p ≡ none → ReadsAs x from p ls Missing after
+  pub reads_none : (p : Parse) (y : Text) (after : List (List ℕ)) → p ≡ none → ReadsAs x n p ls None y after
   unfolding ReadsAs
-  reads_none p after e = reads_is p none Missing after e tt
+  reads_none p y after e = reads_is p none None y after e tt
 
-  pub reads_parsed : (p : Parse) (q : Part) (after : List ℕ) → PartRead x from ls p q after → ReadsAs x from p ls (Found q) after
+  pub reads_parsed : (p : Parse) (line : ℕ) (y : Text) (after : List (List ℕ)) → PartRead x n ls p line y after → ReadsAs x n p ls (Some line) y after
   unfolding ReadsAs
-  reads_parsed p q after it =
-      reads_is p (found it.tree (tokens_from x q.next)) (Found q) after it.parses
-      (record {
-        rest = refl;
-        later = it.later;
-        inside = it.inside;
-        leaves = it.leaves;
-      })
+  reads_parsed p line y after it =
+      reads_is p (found it.tree (tokens y)) (Some line) y after it.parses (record { rest = refl; left = it.left; leaves = it.leaves })
 
-  -- Nothing was found, so there is no parse.
-  missing_parse : (p : Parse) (after : List ℕ) → ReadsAs x from p ls Missing after → p ≡ none
+  -- Nothing was read, so there is no parse.
+  pub missing_parse : (p : Parse) (y : Text) (after : List (List ℕ)) → ReadsAs x n p ls None y after → p ≡ none
   unfolding ReadsAs
-  missing_parse none after h = refl
-  missing_parse (found f us) after h = absurd h
+  missing_parse none y after h = refl
+  missing_parse (found f us) y after h = absurd h
 
-  pub missing_none : (p : Parse) (r : Operand) (after : List ℕ) → r ≡ Missing → ReadsAs x from p ls r after → p ≡ none
-  missing_none p r after e is = missing_parse p after (subst (λ o. ReadsAs x from p ls o after) e is)
-
-  found_parse : (p : Parse) (q : Part) (after : List ℕ) → ReadsAs x from p ls (Found q) after → PartRead x from ls p q after
+  pub part_read : (p : Parse) (line : ℕ) (y : Text) (after : List (List ℕ)) → ReadsAs x n p ls (Some line) y after → PartRead x n ls p line y after
   unfolding ReadsAs
-  found_parse none q after h = absurd h
-  found_parse (found f us) q after h =
-      record {
-        tree = f;
-        parses = ap (found f) (sym h.rest);
-        later = h.later;
-        inside = h.inside;
-        leaves = h.leaves;
-      }
-
-  pub found_read :
-      (p : Parse) (r : Operand) (q : Part) (after : List ℕ) → r ≡ Found q → ReadsAs x from p ls r after → PartRead x from ls p q after
-  found_read p r q after e is = found_parse p q after (subst (λ o. ReadsAs x from p ls o after) e is)
+  part_read none line y after h = absurd h
+  part_read (found f us) line y after h =
+      record { tree = f; parses = ap (found f) (sym h.rest); left = h.left; leaves = h.leaves }
 
   -- What goes on with the part.
   pub then_none :
-      (p : Parse) (r : Operand) (after : List ℕ) (next : Tree → List Token → Parse)
-      → r ≡ Missing
-      → ReadsAs x from p ls r after
+      (p : Parse) (y : Text) (after : List (List ℕ)) (next : Tree → List Token → Parse)
+      → ReadsAs x n p ls None y after
       → and_then p next ≡ none
   unfolding and_then
-  then_none p r after next e is = ap (λ i. and_then i next) (missing_none p r after e is)
+  then_none p y after next is = ap (λ i. and_then i next) (missing_parse p y after is)
 
   pub then_found :
-      (p : Parse) (q : Part) (after : List ℕ) (next : Tree → List Token → Parse) (it : PartRead x from ls p q after)
-      → and_then p next ≡ next it.tree (tokens_from x q.next)
+      (p : Parse) (line : ℕ) (y : Text) (after : List (List ℕ)) (next : Tree → List Token → Parse) (it : PartRead x n ls p line y after)
+      → and_then p next ≡ next it.tree (tokens y)
   unfolding and_then
-  then_found p q after next it = ap (λ i. and_then i next) it.parses
+  then_found p line y after next it = ap (λ i. and_then i next) it.parses
 
--- What was read not before a place was read not before an earlier one.
-pub reads_earlier :
-    (x : Text) (from to : ℕ) (p : Parse) (ls : List (List ℕ)) (r : Operand) (after : List ℕ)
-    → from ≤ to
-    → ReadsAs x to p ls r after
-    → ReadsAs x from p ls r after
+-- What was read of y was read of x, of which y is left.
+pub reads_behind :
+    (x y : Text) (k m n : ℕ) (p : Parse) (ls : List (List ℕ)) (r : Option ℕ) (z : Text) (after : List (List ℕ))
+    → k ≤ m + n
+    → Left m x y
+    → ReadsAs y n p ls r z after
+    → ReadsAs x k p ls r z after
 unfolding ReadsAs
-reads_earlier x from to none ls Missing after l h = h
-reads_earlier x from to none ls (Found q) after l h = h
-reads_earlier x from to (found f us) ls Missing after l h = h
-reads_earlier x from to (found f us) ls (Found q) after l h =
-    record {
-      rest = h.rest;
-      later = le_trans l h.later;
-      inside = h.inside;
-      leaves = h.leaves;
-    }
+reads_behind x y k m n none ls None z after l b h = h
+reads_behind x y k m n none ls (Some line) z after l b h = h
+reads_behind x y k m n (found f us) ls None z after l b h = h
+reads_behind x y k m n (found f us) ls (Some line) z after l b h =
+    record { rest = h.rest; left = left_then k m n x y z l b h.left; leaves = h.leaves }

@@ -1,40 +1,24 @@
--- What comes of reading a part of a rule at a place of the text, in terms of the parse of the tokens from there on. Assumes nothing.
-use Rattle.std.specs.Prelude.{ℕ, ◌≤◌, ◌≡◌, Bool, cond, List, length, drop}
+-- What comes of reading a part of a rule from the start of a text, in terms of the parse of its tokens. Assumes nothing.
+use Rattle.std.specs.Prelude.{ℕ, ◌≡◌, List, Option, Some, None}
 use Rattle.text.specs.Field.{Text}
 use Rattle.rule_text.specs.Tree.{Tree}
 use Rattle.rule_text.specs.Lines.{rewritten}
 use Rattle.rule_text.specs.Kept.{kept}
 use Rattle.rule_text.specs.Scan.{tokens}
 use Rattle.rule_text.specs.Parse.{Parse, none, found}
-use Rattle.rule_text.specs.declared.token.Prefix.{Prefix}
-use Rattle.rule_text.specs.declared.token.Prefix.TheVariants.{Not, Ax, Ex, Eg, Ag}
 use Rattle.rule_text.specs.declared.token.Token.{Token}
-use Rattle.rule_lines.specs.Held.{HoldsKept}
-use Rattle.rule_reader.specs.declared.parse.Part.{Part}
-use Rattle.rule_reader.specs.declared.parse.Operand.{Operand}
-use Rattle.rule_reader.specs.declared.parse.Operand.TheVariants.{Found, Missing}
+use Rattle.scanner.specs.Scanned.{Left}
+use Rattle.rule_lines.specs.Held.{KeptAs}
 
--- The kinds of the operators' lines.
-unfoldable pub prefix_kind : Prefix → ℕ
-prefix_kind Not = 2
-prefix_kind Ax = 4
-prefix_kind Ex = 5
-prefix_kind Eg = 8
-prefix_kind Ag = 9
+-- The tree f was read, y with the tokens us is left of x behind at least n bytes, and its lines are kept behind the lines ls.
+pub record ReadsTree (x : Text) (n : ℕ) (f : Tree) (us : List Token) (ls : List (List ℕ)) (line : ℕ) (y : Text) (after : List (List ℕ)) : Type 0 where
+  pub rest : tokens y ≡ us
+  pub left : Left n x y
+  pub leaves : KeptAs (kept (rewritten f) ls) line after
 
-unfoldable pub until_kind : Bool → ℕ
-until_kind all = cond all 6 7
-
--- The tree f was read, behind it stand the tokens us at a place not before `from`, and its lines are kept behind the lines ls.
-pub record ReadsTree (x : Text) (from : ℕ) (f : Tree) (us : List Token) (ls : List (List ℕ)) (p : Part) (after : List ℕ) : Type 0 where
-  pub rest : tokens (drop p.next x) ≡ us
-  pub later : from ≤ p.next
-  pub inside : p.next ≤ length x
-  pub leaves : HoldsKept (kept (rewritten f) ls) p.line after
-
--- What the reader answers, Missing or a part, is what the parse is. Where there is no parse, the lines do not matter.
-unfoldable pub ReadsAs : Text → ℕ → Parse → List (List ℕ) → Operand → List ℕ → Type 0
-ReadsAs x from none ls Missing after = Unit {0}
-ReadsAs x from none ls (Found p) after = ⊥
-ReadsAs x from (found f us) ls Missing after = ⊥
-ReadsAs x from (found f us) ls (Found p) after = ReadsTree x from f us ls p after
+-- What the reader answers, None or a line, is what the parse is. Where there is no parse, what is left does not matter.
+unfoldable pub ReadsAs : Text → ℕ → Parse → List (List ℕ) → Option ℕ → Text → List (List ℕ) → Type 0
+ReadsAs x n none ls None y after = Unit {0}
+ReadsAs x n none ls (Some line) y after = ⊥
+ReadsAs x n (found f us) ls None y after = ⊥
+ReadsAs x n (found f us) ls (Some line) y after = ReadsTree x n f us ls line y after

@@ -1,192 +1,144 @@
-// Expression, prefix form and closed form. Each reads at a place of the text, keeps the lines of what it reads, and returns its own line
-// and the place behind it. Bytes are used up at each call, or the rank falls, from expression over prefix form to closed form.
-ghost use Rattle.std.specs.Prelude.{◌≡◌, ◌∷◌, suc, ◌≤◌, length, drop};
+// Expression, prefix form and closed form. Each reads from the start of the text that is left, keeps the lines of what it reads, and answers
+// the number of its own line, or None where it isn't there. Bytes are used up at each call, or the rank falls, from expression over prefix
+// form to closed form.
+ghost use Rattle.std.specs.Prelude.{◌≡◌, ◌∷◌, []};
 ghost use Rattle.job.specs.Rule.{quantifier};
+ghost use Rattle.rule_text.specs.Lines as written;
 ghost use Rattle.rule_text.specs.Scan.{tokens};
 ghost use Rattle.rule_text.specs.Parse as reads;
 ghost use Rattle.rule_text.specs.declared.token.Token.TheVariants as token;
-ghost use Rattle.rule_lines.specs.Held.{held, HoldsLines};
-ghost use Rattle.rule_reader.specs.Reads.{ReadsAs, prefix_kind, until_kind};
+ghost use Rattle.rule_reader.specs.Reads.{ReadsAs};
 
-use rule_lines::joining::{keep_joined, keep_left};
-use rule_lines::lines::keep;
-use rule_places::places::{Following, Place, mark_at, operator_at};
-use rule_text::token::{Prefix, Token};
-use scanner::scan::token_at;
+use job::subformula::Subformula;
+use rule_lines::lines::Lines;
+use rule_places::places::{behind_mark, first_operator};
+use rule_text::token::{Mark, Prefix, Token};
+use scanner::scan::first_token;
 
-// What was read: the number of its line, and the place behind it.
-#[derive(Clone, Copy)]
-pub struct Part {
-    pub line: usize,
-    pub next: usize,
+// The text that is left, and the lines that are kept so far.
+#[derive(Drop)]
+pub struct Reader<'a> {
+    pub rest: &'a [u8],
+    pub lines: Lines,
 }
 
-#[derive(Clone, Copy)]
-pub enum Operand {
-    Found(Part),
-    Missing,
-}
-
-fn kind_of(p: Prefix) -> usize
-    ensures { result ≡ prefix_kind p }
+#[tactic(auto, unfolding(rule_text::specs::Lines::prefix_line))]
+fn prefix_line(p: Prefix, a: usize) -> Subformula
+    ensures { result ≡ written.prefix_line p a }
 {
     match p {
-        Prefix::Not => 2,
-        Prefix::Ax => 4,
-        Prefix::Ex => 5,
-        Prefix::Eg => 8,
-        Prefix::Ag => 9,
+        Prefix::Not => Subformula::Not(a),
+        Prefix::Ax => Subformula::Ax(a),
+        Prefix::Ex => Subformula::Ex(a),
+        Prefix::Eg => Subformula::Eg(a),
+        Prefix::Ag => Subformula::Ag(a),
     }
 }
 
-fn until_kind(all: bool) -> usize
-    ensures { result ≡ until_kind all }
+#[tactic(auto, unfolding(rule_text::specs::Lines::until_line))]
+fn until_line(all: bool, a: usize, b: usize) -> Subformula
+    ensures { result ≡ written.until_line (quantifier all) a b }
 {
     if all {
-        return 6;
+        Subformula::Au(a, b)
+    } else {
+        Subformula::Eu(a, b)
     }
-    7
 }
 
-// An expression of operators that are at least so strong.
-#[cycle(form)]
-pub fn expression(text: &[u8], at: usize, least: usize, lines: &mut [usize]) -> Operand
-    requires { (at ≤ length text.now) × HoldsLines lines.old }
-    ensures { ReadsAs text.now (suc at) (reads.parse (reads.expression least) (tokens (drop at text.now)))
-        (held lines.old) result lines.new }
-{
-    let first = prefix_form(text, at, lines);
-    let Operand::Found(part) = first else {
-        return Operand::Missing;
-    };
-    let mut left = part;
-    loop {
-        let following = operator_at(text, left.next, least);
-        let Following::By(infix) = following else {
-            return Operand::Found(left);
+impl<'a> Reader<'a> {
+    // Nothing of the text is read.
+    pub fn new(text: &'a [u8]) -> Self
+        ensures { (result.rest.now ≡ text.now) × (result.lines ≡ []) }
+    {
+        Reader {
+            rest: text,
+            lines: Lines::new(),
+        }
+    }
+
+    // An expression of operators that are at least so strong.
+    #[cycle(form)]
+    pub fn expression(&mut self, least: usize) -> Option<usize>
+        ensures { ReadsAs self.old.rest.now 1 (reads.parse (reads.expression least) (tokens self.old.rest.now))
+            self.old.lines result self.new.rest.now self.new.lines }
+    {
+        let mut left = self.prefix_form()?;
+        while let Some(infix) = first_operator(self.rest, least) {
+            let a = self.lines.keep_left(infix.operator, left);
+            self.rest = infix.behind;
+            let b = self.expression(infix.right)?;
+            left = self.lines.keep_joined(infix.operator, a, b);
+        }
+        Some(left)
+    }
+
+    // A closed form behind prefix operators.
+    #[cycle(form)]
+    fn prefix_form(&mut self) -> Option<usize>
+        ensures { ReadsAs self.old.rest.now 1 (reads.parse reads.prefix_form (tokens self.old.rest.now))
+            self.old.lines result self.new.rest.now self.new.lines }
+    {
+        let first = first_token(self.rest);
+        let Token::Prefix(p) = first.token else {
+            return self.closed_form();
         };
-        let operator = infix.operator;
-        let a = keep_left(lines, operator, left.line);
-        let right = expression(text, infix.behind, infix.right, lines);
-        let Operand::Found(b) = right else {
-            return Operand::Missing;
-        };
-        left = Part {
-            line: keep_joined(lines, operator, a, b.line),
-            next: b.next,
-        };
+        self.rest = first.behind;
+        let f = self.prefix_form()?;
+        Some(self.lines.keep(prefix_line(p, f)))
     }
-}
 
-// A closed form behind prefix operators.
-#[cycle(form)]
-fn prefix_form(text: &[u8], at: usize, lines: &mut [usize]) -> Operand
-    requires { (at ≤ length text.now) × HoldsLines lines.old }
-    ensures { ReadsAs text.now (suc at) (reads.parse reads.prefix_form (tokens (drop at text.now)))
-        (held lines.old) result lines.new }
-{
-    let first = token_at(text, at);
-    let token = first.token;
-    let Token::Prefix(p) = token else {
-        return closed_form(text, at, lines);
-    };
-    let operand = prefix_form(text, first.behind, lines);
-    let Operand::Found(f) = operand else {
-        return Operand::Missing;
-    };
-    Operand::Found(Part {
-        line: keep(lines, kind_of(p), f.line, 0),
-        next: f.next,
-    })
-}
-
-// A closed form: an atom, or what starts with `(`, `A` or `E`.
-#[cycle(form)]
-fn closed_form(text: &[u8], at: usize, lines: &mut [usize]) -> Operand
-    requires { (at ≤ length text.now) × HoldsLines lines.old }
-    ensures { ReadsAs text.now (suc at) (reads.parse reads.closed_form (tokens (drop at text.now)))
-        (held lines.old) result lines.new }
-{
-    let first = token_at(text, at);
-    let token = first.token;
-    match token {
-        Token::Atom(j) => Operand::Found(Part {
-            line: keep(lines, 1, j, 0),
-            next: first.behind,
-        }),
-        Token::Mark(c) => marked_form(text, first.behind, c, lines),
-        Token::Prefix(_) => Operand::Missing,
-        Token::Operator(_) => Operand::Missing,
-        Token::Unknown => Operand::Missing,
+    // A closed form: an atom, or what starts with `(`, `A` or `E`.
+    #[cycle(form)]
+    fn closed_form(&mut self) -> Option<usize>
+        ensures { ReadsAs self.old.rest.now 1 (reads.parse reads.closed_form (tokens self.old.rest.now))
+            self.old.lines result self.new.rest.now self.new.lines }
+    {
+        let first = first_token(self.rest);
+        self.rest = first.behind;
+        match first.token {
+            Token::Atom(j) => Some(self.lines.keep(Subformula::Atom(j))),
+            Token::Mark(mark) => self.marked_form(mark),
+            Token::Prefix(_) | Token::Operator(_) | Token::Unknown => None,
+        }
     }
-}
 
-// A closed form behind its first mark.
-#[cycle(form)]
-fn marked_form(text: &[u8], at: usize, c: u8, lines: &mut [usize]) -> Operand
-    requires { (at ≤ length text.now) × HoldsLines lines.old }
-    ensures { ReadsAs text.now at (reads.parse reads.closed_form (token.Mark c ∷ tokens (drop at text.now)))
-        (held lines.old) result lines.new }
-{
-    if c == b'(' {
-        return parenthesized(text, at, lines);
+    // A closed form behind its first mark.
+    #[cycle(form)]
+    fn marked_form(&mut self, mark: Mark) -> Option<usize>
+        ensures { ReadsAs self.old.rest.now 0 (reads.parse reads.closed_form (token.Mark mark ∷ tokens self.old.rest.now))
+            self.old.lines result self.new.rest.now self.new.lines }
+    {
+        match mark {
+            Mark::LeftParenthesis => self.parenthesized(),
+            Mark::ForAllPaths => self.until_form(true),
+            Mark::OnSomePath => self.until_form(false),
+            Mark::Until | Mark::RightParenthesis | Mark::LeftBracket | Mark::RightBracket => None,
+        }
     }
-    if c == b'A' {
-        return until_form(text, at, true, lines);
-    }
-    if c == b'E' {
-        return until_form(text, at, false, lines);
-    }
-    Operand::Missing
-}
 
-// What stands behind `(`: an expression and `)`.
-#[cycle(form)]
-fn parenthesized(text: &[u8], at: usize, lines: &mut [usize]) -> Operand
-    requires { (at ≤ length text.now) × HoldsLines lines.old }
-    ensures { ReadsAs text.now at (reads.parse reads.parenthesized (tokens (drop at text.now)))
-        (held lines.old) result lines.new }
-{
-    let inner = expression(text, at, 1, lines);
-    let Operand::Found(f) = inner else {
-        return Operand::Missing;
-    };
-    let closing = mark_at(text, f.next, b')');
-    let Place::Behind(next) = closing else {
-        return Operand::Missing;
-    };
-    Operand::Found(Part { line: f.line, next })
-}
+    // What stands behind `(`: an expression and `)`.
+    #[cycle(form)]
+    fn parenthesized(&mut self) -> Option<usize>
+        ensures { ReadsAs self.old.rest.now 0 (reads.parse reads.parenthesized (tokens self.old.rest.now))
+            self.old.lines result self.new.rest.now self.new.lines }
+    {
+        let inner = self.expression(1)?;
+        self.rest = behind_mark(self.rest, Mark::RightParenthesis)?;
+        Some(inner)
+    }
 
-// What stands behind `A` or `E`: `[`, two expressions with `U` between them, and `]`.
-#[cycle(form)]
-fn until_form(text: &[u8], at: usize, all: bool, lines: &mut [usize]) -> Operand
-    requires { (at ≤ length text.now) × HoldsLines lines.old }
-    ensures { ReadsAs text.now at (reads.parse (reads.until_form (quantifier all)) (tokens (drop at text.now)))
-        (held lines.old) result lines.new }
-{
-    let opening = mark_at(text, at, b'[');
-    let Place::Behind(start) = opening else {
-        return Operand::Missing;
-    };
-    let left = expression(text, start, 1, lines);
-    let Operand::Found(f) = left else {
-        return Operand::Missing;
-    };
-    let until = mark_at(text, f.next, b'U');
-    let Place::Behind(middle) = until else {
-        return Operand::Missing;
-    };
-    let right = expression(text, middle, 1, lines);
-    let Operand::Found(g) = right else {
-        return Operand::Missing;
-    };
-    let closing = mark_at(text, g.next, b']');
-    let Place::Behind(next) = closing else {
-        return Operand::Missing;
-    };
-    Operand::Found(Part {
-        line: keep(lines, until_kind(all), f.line, g.line),
-        next,
-    })
+    // What stands behind `A` or `E`: `[`, two expressions with `U` between them, and `]`.
+    #[cycle(form)]
+    fn until_form(&mut self, all: bool) -> Option<usize>
+        ensures { ReadsAs self.old.rest.now 0 (reads.parse (reads.until_form (quantifier all)) (tokens self.old.rest.now))
+            self.old.lines result self.new.rest.now self.new.lines }
+    {
+        self.rest = behind_mark(self.rest, Mark::LeftBracket)?;
+        let f = self.expression(1)?;
+        self.rest = behind_mark(self.rest, Mark::Until)?;
+        let g = self.expression(1)?;
+        self.rest = behind_mark(self.rest, Mark::RightBracket)?;
+        Some(self.lines.keep(until_line(all, f, g)))
+    }
 }

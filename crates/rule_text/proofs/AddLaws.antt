@@ -25,7 +25,7 @@ equal_is (x ∷ xs) [] e = absurd (true≢false (sym e))
 equal_is (x ∷ xs) (y ∷ ys) e =
     ap₂ {C = List ℕ} ◌∷◌ (eqb-true x y (and_left (eqb x y) (equal xs ys) e)) (equal_is xs ys (and_right (eqb x y) (equal xs ys) e))
 
-equal_self : (xs : List ℕ) → equal xs xs ≡ true
+pub equal_self : (xs : List ℕ) → equal xs xs ≡ true
 unfolding equal
 equal_self [] = refl
 equal_self (x ∷ xs) = rw (eq-eqb x x refl) (equal_self xs)
@@ -57,7 +57,7 @@ read_fields (kind.Eu a b) = refl
 read_fields (kind.Eg a) = refl
 read_fields (kind.Ag a) = refl
 
-same_line : (f g : Subformula) → equal (fields f) (fields g) ≡ true → g ≡ f
+pub same_line : (f g : Subformula) → equal (fields f) (fields g) ≡ true → g ≡ f
 same_line f g e = sym (read_fields g) ∙ sym (ap read_line (equal_is (fields f) (fields g) e)) ∙ read_fields f
 
 pub place_within : (f : Subformula) (ls : List Subformula) → place f ls ≤ length ls

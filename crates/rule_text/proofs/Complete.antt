@@ -7,14 +7,16 @@ use borrow.Author.Tests.{le-leb, lt-leb}
 use Rattle.job.specs.Job.{Quantifier, for_all, exists}
 use Rattle.rule_text.specs.declared.token.Prefix.{Prefix as PrefixOperator}
 use Rattle.rule_text.specs.declared.token.Operator.{Operator as BinaryOperator}
+use Rattle.rule_text.specs.declared.token.Mark.{Mark as MarkKind}
+use Rattle.rule_text.specs.declared.token.Mark.TheVariants.{Until, RightParenthesis, RightBracket}
 use Rattle.rule_text.specs.declared.token.Token.{Token}
 use Rattle.rule_text.specs.declared.token.Token.TheVariants.{Atom, Prefix, Operator, Mark, Unknown}
 use Rattle.rule_text.specs.Tree.{Tree, atom, prefix, binary, until}
-use Rattle.rule_text.specs.Token.{for_all_paths, on_some_path, until_mark, left_parenthesis, right_parenthesis, left_bracket, right_bracket}
+use Rattle.rule_text.specs.Token.{mark_byte, same_mark, for_all_paths, on_some_path, until_mark, left_parenthesis, right_parenthesis, left_bracket, right_bracket}
 use Rattle.rule_text.specs.Grammar.{strength, left_level, right_level, whole_rule, tightest, path_mark}
 use Rattle.rule_text.specs.Grammar.{Derives, an_atom, prefixed, in_parentheses, in_brackets, joins, tighter}
 use Rattle.rule_text.specs.Parse.{expression, operators, prefix_form, closed_form, parenthesized, until_form}
-use Rattle.rule_text.specs.Parse.{found, and_then, behind, taking, read_operators, read_prefix, read_closed, read_step, parse}
+use Rattle.rule_text.specs.Parse.{found, and_then, behind, taking, read_operators, read_prefix, read_marked, read_closed, read_step, parse}
 use Rattle.rule_text.proofs.Descent.{parse_step}
 use Rattle.rule_text.proofs.Levels.{Stops, Ends, bounds, stops_ends, stops_later}
 
@@ -60,7 +62,7 @@ parentheses_parsed :
     (ts us : List Token) (f : Tree)
     → parse (expression whole_rule) ts ≡ found f (right_parenthesis ∷ us)
     → parse prefix_form (left_parenthesis ∷ ts) ≡ found f us
-unfolding read_step read_prefix read_closed and_then behind
+unfolding read_step read_prefix read_closed read_marked and_then behind mark_byte same_mark
 parentheses_parsed ts us f e =
     parse_step prefix_form (left_parenthesis ∷ ts)
     ∙ parse_step closed_form (left_parenthesis ∷ ts)
@@ -68,7 +70,7 @@ parentheses_parsed ts us f e =
     ∙ simp e
 
 path_parsed : (q : Quantifier) (ts : List Token) → parse prefix_form (path_mark q ∷ ts) ≡ parse (until_form q) ts
-unfolding read_step read_prefix read_closed path_mark
+unfolding read_step read_prefix read_closed read_marked path_mark
 path_parsed for_all ts = parse_step prefix_form (for_all_paths ∷ ts) ∙ parse_step closed_form (for_all_paths ∷ ts)
 path_parsed exists ts = parse_step prefix_form (on_some_path ∷ ts) ∙ parse_step closed_form (on_some_path ∷ ts)
 
@@ -77,7 +79,7 @@ brackets_parsed :
     → parse (expression whole_rule) ts ≡ found f (until_mark ∷ us)
     → parse (expression whole_rule) us ≡ found g (right_bracket ∷ vs)
     → parse prefix_form (path_mark q ∷ left_bracket ∷ ts) ≡ found (until q f g) vs
-unfolding read_step and_then behind
+unfolding read_step and_then behind mark_byte same_mark
 brackets_parsed q ts us vs f g e h =
     path_parsed q (left_bracket ∷ ts) ∙ parse_step (until_form q) (left_bracket ∷ ts) ∙ simp (e, h)
 
@@ -92,10 +94,10 @@ tight_parsed ts f rest e =
 
 -- an expression up to a mark
 marked_parsed :
-    (ts : List Token) (f : Tree) (c : ℕ) (rest : List Token)
-    → Parsed whole_rule ts f (Mark c ∷ rest)
-    → parse (expression whole_rule) (ts ++ (Mark c ∷ rest)) ≡ found f (Mark c ∷ rest)
-marked_parsed ts f c rest h = h.operand whole_rule (omega arith) ∙ operators_end whole_rule f (Mark c ∷ rest) tt
+    (ts : List Token) (f : Tree) (m : MarkKind) (rest : List Token)
+    → Parsed whole_rule ts f (Mark m ∷ rest)
+    → parse (expression whole_rule) (ts ++ (Mark m ∷ rest)) ≡ found f (Mark m ∷ rest)
+marked_parsed ts f m rest h = h.operand whole_rule (omega arith) ∙ operators_end whole_rule f (Mark m ∷ rest) tt
 
 operator_parsed :
     (o : BinaryOperator) (ts us : List Token) (f g : Tree) (rest : List Token)
@@ -123,14 +125,14 @@ derives_parsed l ts f (in_parentheses us g d) rest s =
     tight_parsed _ f rest
     (rw (append_assoc us (right_parenthesis ∷ []) rest)
     (parentheses_parsed (us ++ (right_parenthesis ∷ rest)) rest f
-    (marked_parsed us f 41 rest (derives_parsed whole_rule us f d (right_parenthesis ∷ rest) tt))))
+    (marked_parsed us f RightParenthesis rest (derives_parsed whole_rule us f d (right_parenthesis ∷ rest) tt))))
 derives_parsed l ts f (in_brackets q us vs g h d e) rest s =
     let after = vs ++ (right_bracket ∷ rest) in
     tight_parsed _ (until q g h) rest
     (rw (append_assoc us (until_mark ∷ (vs ++ (right_bracket ∷ []))) rest, append_assoc vs (right_bracket ∷ []) rest)
     (brackets_parsed q (us ++ (until_mark ∷ after)) after rest g h
-    (marked_parsed us g 85 after (derives_parsed whole_rule us g d (until_mark ∷ after) tt))
-    (marked_parsed vs h 93 rest (derives_parsed whole_rule vs h e (right_bracket ∷ rest) tt))))
+    (marked_parsed us g Until after (derives_parsed whole_rule us g d (until_mark ∷ after) tt))
+    (marked_parsed vs h RightBracket rest (derives_parsed whole_rule vs h e (right_bracket ∷ rest) tt))))
 derives_parsed l ts f (joins o us vs g h d e) rest s =
     let b = bounds o in
     operator_parsed o us vs g h rest s

@@ -1,19 +1,21 @@
 -- The descent uses up tokens, and its fuel is enough: what is parsed is one step over what is parsed. Assumes nothing.
 use Prim.Native.Nat.{ℕ, zero, suc, ◌+◌, ◌*◌, ◌≤◌, ◌<◌}
-use mathlib.Core.Path.{◌≡◌, refl, ap, ap₂, subst}
+use mathlib.Core.Path.{◌≡◌, refl, ap, subst}
 use mathlib.Core.Bool.{cond}
 use mathlib.Core.List.{List, [], ◌∷◌}
 use native.Mathlib.Nat.{not-suc-le-zero}
 use native.Mathlib.Omega.{arith}
 use lib.ListN.{length}
-use lib.Dec.{leb, eqb}
+use lib.Dec.{leb}
 use Rattle.job.specs.Job.{for_all, exists}
+use Rattle.rule_text.specs.declared.token.Mark.{Mark as MarkKind}
+use Rattle.rule_text.specs.declared.token.Mark.TheVariants.{ForAllPaths, OnSomePath, Until, LeftParenthesis, RightParenthesis, LeftBracket, RightBracket}
 use Rattle.rule_text.specs.declared.token.Token.{Token}
 use Rattle.rule_text.specs.declared.token.Token.TheVariants.{Atom, Prefix, Operator, Mark, Unknown}
 use Rattle.rule_text.specs.Tree.{Tree, binary}
 use Rattle.rule_text.specs.Grammar.{strength, right_level, whole_rule}
 use Rattle.rule_text.specs.Parse.{Goal, expression, operators, prefix_form, closed_form, parenthesized, until_form}
-use Rattle.rule_text.specs.Parse.{Parse, found, taking, read_operators, read_prefix, read_closed, read_step}
+use Rattle.rule_text.specs.Parse.{Parse, found, taking, read_operators, read_prefix, read_marked, read_closed, read_step}
 use Rattle.rule_text.specs.Parse.{goal_rank, depth, read_within, parse}
 use Rattle.rule_text.proofs.Gives.{Gives, gives_more, cond_gives, and_then_gives, behind_gives, and_then_same, behind_same}
 
@@ -58,7 +60,7 @@ module _ (read : Goal → List Token → Parse) (uses : Uses read) where
       let h = found_shorter (expression (right_level o)) ts us g e in
       later_leaves 0 n (operators least (binary o f g)) us (omega arith)))
       (λ t. omega arith)
-  operators_leave least f (Mark c ∷ ts) = omega arith
+  operators_leave least f (Mark m ∷ ts) = omega arith
   operators_leave least f (Unknown ∷ ts) = omega arith
 
   prefix_leaves : (ts : List Token) → Gives (Leaves 1 (length ts)) (read_prefix read ts)
@@ -69,8 +71,18 @@ module _ (read : Goal → List Token → Parse) (uses : Uses read) where
       and_then_gives (Leaves 1 (suc (length ts))) (read prefix_form ts) _
       (λ f us e. let h = found_shorter prefix_form ts us f e in omega arith)
   prefix_leaves (Operator o ∷ ts) = uses closed_form (Operator o ∷ ts)
-  prefix_leaves (Mark c ∷ ts) = uses closed_form (Mark c ∷ ts)
+  prefix_leaves (Mark m ∷ ts) = uses closed_form (Mark m ∷ ts)
   prefix_leaves (Unknown ∷ ts) = uses closed_form (Unknown ∷ ts)
+
+  marked_leaves : (m : MarkKind) (ts : List Token) → Gives (Leaves 1 (suc (length ts))) (read_marked read m ts)
+  unfolding read_marked
+  marked_leaves LeftParenthesis ts = later_leaves 1 (suc (length ts)) parenthesized ts (omega arith)
+  marked_leaves ForAllPaths ts = later_leaves 1 (suc (length ts)) (until_form for_all) ts (omega arith)
+  marked_leaves OnSomePath ts = later_leaves 1 (suc (length ts)) (until_form exists) ts (omega arith)
+  marked_leaves RightParenthesis ts = tt
+  marked_leaves LeftBracket ts = tt
+  marked_leaves RightBracket ts = tt
+  marked_leaves Until ts = tt
 
   closed_leaves : (ts : List Token) → Gives (Leaves 1 (length ts)) (read_closed read ts)
   unfolding read_closed
@@ -78,11 +90,7 @@ module _ (read : Goal → List Token → Parse) (uses : Uses read) where
   closed_leaves (Atom j ∷ ts) = omega arith
   closed_leaves (Prefix p ∷ ts) = tt
   closed_leaves (Operator o ∷ ts) = tt
-  closed_leaves (Mark c ∷ ts) =
-      let n = suc (length ts) in
-      cond_gives (Leaves 1 n) (eqb c 40) _ _ (λ e. later_leaves 1 n parenthesized ts (omega arith))
-      (λ e. cond_gives (Leaves 1 n) (eqb c 65) _ _ (λ e. later_leaves 1 n (until_form for_all) ts (omega arith))
-      (λ e. cond_gives (Leaves 1 n) (eqb c 69) _ _ (λ e. later_leaves 1 n (until_form exists) ts (omega arith)) (λ e. tt)))
+  closed_leaves (Mark m ∷ ts) = marked_leaves m ts
   closed_leaves (Unknown ∷ ts) = tt
 
   step_uses : Uses (read_step read)
@@ -97,13 +105,13 @@ module _ (read : Goal → List Token → Parse) (uses : Uses read) where
       and_then_gives (Leaves 1 (length ts)) (read (expression whole_rule) ts) _
       (λ f us e.
       let h = found_shorter (expression whole_rule) ts us f e in
-      behind_gives (Leaves 1 (length ts)) 41 us _ (λ vs m. let g = ap length m in omega arith))
+      behind_gives (Leaves 1 (length ts)) RightParenthesis us _ (λ vs m. let g = ap length m in omega arith))
   step_uses (until_form q) ts =
-      behind_gives (Leaves 1 (length ts)) 91 ts _ (λ us left.
+      behind_gives (Leaves 1 (length ts)) LeftBracket ts _ (λ us left.
       and_then_gives (Leaves 1 (length ts)) (read (expression whole_rule) us) _ (λ f vs e.
-      behind_gives (Leaves 1 (length ts)) 85 vs _ (λ ws middle.
+      behind_gives (Leaves 1 (length ts)) Until vs _ (λ ws middle.
       and_then_gives (Leaves 1 (length ts)) (read (expression whole_rule) ws) _ (λ g xs d.
-      behind_gives (Leaves 1 (length ts)) 93 xs _ (λ ys right.
+      behind_gives (Leaves 1 (length ts)) RightBracket xs _ (λ ys right.
       let h = found_shorter (expression whole_rule) us vs f e in
       let k = found_shorter (expression whole_rule) ws xs g d in
       omega (arith, ap length left, ap length middle, ap length right))))))
@@ -131,7 +139,7 @@ module _
       (λ g us e.
       let l = found_shorter read uses (expression (right_level o)) ts us g e in
       same (operators least (binary o f g)) us (omega arith)))
-  operators_same least f (Mark c ∷ ts) h = refl
+  operators_same least f (Mark m ∷ ts) h = refl
   operators_same least f (Unknown ∷ ts) h = refl
 
   prefix_same : (ts : List Token) → 4 * length ts < d → read_prefix read ts ≡ read_prefix other ts
@@ -140,8 +148,18 @@ module _
   prefix_same (Atom j ∷ ts) h = same closed_form (Atom j ∷ ts) (omega arith)
   prefix_same (Prefix p ∷ ts) h = and_then_same _ _ _ _ (same prefix_form ts (omega arith)) (λ f us e. refl)
   prefix_same (Operator o ∷ ts) h = same closed_form (Operator o ∷ ts) (omega arith)
-  prefix_same (Mark c ∷ ts) h = same closed_form (Mark c ∷ ts) (omega arith)
+  prefix_same (Mark m ∷ ts) h = same closed_form (Mark m ∷ ts) (omega arith)
   prefix_same (Unknown ∷ ts) h = same closed_form (Unknown ∷ ts) (omega arith)
+
+  marked_same : (m : MarkKind) (ts : List Token) → 4 * suc (length ts) ≤ d → read_marked read m ts ≡ read_marked other m ts
+  unfolding read_marked depth goal_rank
+  marked_same LeftParenthesis ts h = same parenthesized ts (omega arith)
+  marked_same ForAllPaths ts h = same (until_form for_all) ts (omega arith)
+  marked_same OnSomePath ts h = same (until_form exists) ts (omega arith)
+  marked_same RightParenthesis ts h = refl
+  marked_same LeftBracket ts h = refl
+  marked_same RightBracket ts h = refl
+  marked_same Until ts h = refl
 
   closed_same : (ts : List Token) → 4 * length ts ≤ d → read_closed read ts ≡ read_closed other ts
   unfolding read_closed depth goal_rank
@@ -149,10 +167,7 @@ module _
   closed_same (Atom j ∷ ts) h = refl
   closed_same (Prefix p ∷ ts) h = refl
   closed_same (Operator o ∷ ts) h = refl
-  closed_same (Mark c ∷ ts) h =
-      ap₂ (cond (eqb c 40)) (same parenthesized ts (omega arith))
-      (ap₂ (cond (eqb c 65)) (same (until_form for_all) ts (omega arith))
-      (ap₂ (cond (eqb c 69)) (same (until_form exists) ts (omega arith)) refl))
+  closed_same (Mark m ∷ ts) h = marked_same m ts (omega arith)
   closed_same (Unknown ∷ ts) h = refl
 
   step_same : (goal : Goal) (ts : List Token) → depth goal ts ≤ d → read_step read goal ts ≡ read_step other goal ts
@@ -165,10 +180,10 @@ module _
   step_same closed_form ts h = closed_same ts (omega arith)
   step_same parenthesized ts h = and_then_same _ _ _ _ (same (expression whole_rule) ts (omega arith)) (λ f us e. refl)
   step_same (until_form q) ts h =
-      behind_same 91 ts _ _ (λ us left.
+      behind_same LeftBracket ts _ _ (λ us left.
       let h1 = ap length left in
       and_then_same _ _ _ _ (same (expression whole_rule) us (omega arith)) (λ f vs e.
-      behind_same 85 vs _ _ (λ ws middle.
+      behind_same Until vs _ _ (λ ws middle.
       let h2 = ap length middle in
       let l = found_shorter read uses (expression whole_rule) us vs f e in
       and_then_same _ _ _ _ (same (expression whole_rule) ws (omega arith)) (λ g xs d. refl))))

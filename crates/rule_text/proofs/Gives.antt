@@ -1,18 +1,18 @@
 -- A parse that goes on behind another or behind a mark: what it gives, and when two are the same. Assumes nothing.
-use Prim.Native.Nat.{ℕ}
 use mathlib.Core.Path.{◌≡◌, refl, ◌∙◌, ap}
 use mathlib.Core.Bool.{Bool, true, false, cond}
 use mathlib.Core.List.{List, [], ◌∷◌}
-use borrow.Author.Tests.{eqb-true}
-use lib.Dec.{eqb}
 use Rattle.law.proofs.Bool.{split}
+use Rattle.rule_text.specs.declared.token.Mark.{Mark as MarkKind}
 use Rattle.rule_text.specs.declared.token.Token.{Token}
 use Rattle.rule_text.specs.declared.token.Token.TheVariants.{Atom, Prefix, Operator, Mark, Unknown}
+use Rattle.rule_text.specs.Token.{same_mark}
 use Rattle.rule_text.specs.Tree.{Tree}
 use Rattle.rule_text.specs.Parse.{Parse, none, found, and_then, behind}
+use Rattle.rule_text.proofs.MarkLaws.{marks_same}
 
-marked : (d c : ℕ) (ts : List Token) → eqb d c ≡ true → Mark d ∷ ts ≡ Mark c ∷ ts
-marked d c ts e = ap (λ (x : ℕ). Mark x ∷ ts) (eqb-true d c e)
+marked : (n m : MarkKind) (ts : List Token) → same_mark n m ≡ true → Mark n ∷ ts ≡ Mark m ∷ ts
+marked n m ts e = ap (λ (x : MarkKind). Mark x ∷ ts) (marks_same n m e)
 
 -- The tree and the tokens behind it, if any are found, have a property.
 abbrev pub Gives : (Tree → List Token → Type 0) → Parse → Type 0
@@ -41,17 +41,17 @@ module _ (P : Tree → List Token → Type 0) where
   and_then_gives (found f us) next h = h f us refl
 
   pub behind_gives :
-      (c : ℕ) (ts : List Token) (next : List Token → Parse)
-      → ((us : List Token) → ts ≡ Mark c ∷ us → Gives P (next us))
-      → Gives P (behind c ts next)
+      (m : MarkKind) (ts : List Token) (next : List Token → Parse)
+      → ((us : List Token) → ts ≡ Mark m ∷ us → Gives P (next us))
+      → Gives P (behind m ts next)
   unfolding behind
-  behind_gives c [] next h = tt
-  behind_gives c (Atom j ∷ ts) next h = tt
-  behind_gives c (Prefix p ∷ ts) next h = tt
-  behind_gives c (Operator o ∷ ts) next h = tt
-  behind_gives c (Mark d ∷ ts) next h =
-      cond_gives (eqb d c) (next ts) none (λ e. h ts (marked d c ts e)) (λ e. tt)
-  behind_gives c (Unknown ∷ ts) next h = tt
+  behind_gives m [] next h = tt
+  behind_gives m (Atom j ∷ ts) next h = tt
+  behind_gives m (Prefix p ∷ ts) next h = tt
+  behind_gives m (Operator o ∷ ts) next h = tt
+  behind_gives m (Mark n ∷ ts) next h =
+      cond_gives (same_mark n m) (next ts) none (λ e. h ts (marked n m ts e)) (λ e. tt)
+  behind_gives m (Unknown ∷ ts) next h = tt
 
 pub and_then_same :
     (p q : Parse) (next other : Tree → List Token → Parse)
@@ -69,14 +69,14 @@ and_then_same p q next other e h = here p h ∙ ap (λ (r : Parse). and_then r o
     here (found f us) g = g f us refl
 
 pub behind_same :
-    (c : ℕ) (ts : List Token) (next other : List Token → Parse)
-    → ((us : List Token) → ts ≡ Mark c ∷ us → next us ≡ other us)
-    → behind c ts next ≡ behind c ts other
+    (m : MarkKind) (ts : List Token) (next other : List Token → Parse)
+    → ((us : List Token) → ts ≡ Mark m ∷ us → next us ≡ other us)
+    → behind m ts next ≡ behind m ts other
 unfolding behind
-behind_same c [] next other h = refl
-behind_same c (Atom j ∷ ts) next other h = refl
-behind_same c (Prefix p ∷ ts) next other h = refl
-behind_same c (Operator o ∷ ts) next other h = refl
-behind_same c (Mark d ∷ ts) next other h =
-    split (eqb d c) (λ e. ap (λ (p : Parse). cond (eqb d c) p none) (h ts (marked d c ts e))) (λ e. simp e)
-behind_same c (Unknown ∷ ts) next other h = refl
+behind_same m [] next other h = refl
+behind_same m (Atom j ∷ ts) next other h = refl
+behind_same m (Prefix p ∷ ts) next other h = refl
+behind_same m (Operator o ∷ ts) next other h = refl
+behind_same m (Mark n ∷ ts) next other h =
+    split (same_mark n m) (λ e. ap (λ (p : Parse). cond (same_mark n m) p none) (h ts (marked n m ts e))) (λ e. simp e)
+behind_same m (Unknown ∷ ts) next other h = refl

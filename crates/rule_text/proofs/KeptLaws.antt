@@ -67,7 +67,7 @@ unfolding find place
 find_place f [] = refl
 find_place f (g ∷ ls) = ap (λ n. cond (equal (fields f) (fields g)) 0 (suc n)) (find_place f ls)
 
-map_append : (ls : List Subformula) (f : Subformula) → map fields (ls ++ (f ∷ [])) ≡ map fields ls ++ (fields f ∷ [])
+pub map_append : (ls : List Subformula) (f : Subformula) → map fields (ls ++ (f ∷ [])) ≡ map fields ls ++ (fields f ∷ [])
 map_append [] f = refl
 map_append (g ∷ ls) f = ap {B = List (List ℕ)} (λ ks. fields g ∷ ks) (map_append ls f)
 

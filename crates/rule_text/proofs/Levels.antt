@@ -18,7 +18,7 @@ Heads P [] = Unit {0}
 Heads P (Atom j ∷ ts) = Unit {0}
 Heads P (Prefix p ∷ ts) = Unit {0}
 Heads P (Operator o ∷ ts) = P o
-Heads P (Mark c ∷ ts) = Unit {0}
+Heads P (Mark m ∷ ts) = Unit {0}
 Heads P (Unknown ∷ ts) = Unit {0}
 
 heads :
@@ -29,7 +29,7 @@ heads P [] h = tt
 heads P (Atom j ∷ ts) h = tt
 heads P (Prefix p ∷ ts) h = tt
 heads P (Operator o ∷ ts) h = h o ts refl
-heads P (Mark c ∷ ts) h = tt
+heads P (Mark m ∷ ts) h = tt
 heads P (Unknown ∷ ts) h = tt
 
 heads_more : (P Q : BinaryOperator → Type 0) (ts : List Token) → ((o : BinaryOperator) → P o → Q o) → Heads P ts → Heads Q ts

@@ -11,14 +11,15 @@ use lib.Dec.{leb, eqb, lit≤}
 use lib.ListN.{length, get_or, take, drop, take-append-drop}
 use lib.Seq.{take-suc}
 use Rattle.law.specs.Lists.{every}
-use Rattle.law.proofs.Bool.{clash, and_left, and_right, and_no_left, or_left, or_right}
+use Rattle.law.proofs.Bool.{clash, and_left, and_right}
 use Rattle.text.specs.Field.{Text, is_digit}
 use Rattle.text.proofs.FieldLaws.{digit_range}
 use Rattle.rule_text.specs.declared.token.Prefix.TheVariants.{Not, Ax, Ex, Eg, Ag}
 use Rattle.rule_text.specs.declared.token.Operator.TheVariants.{And, Or, Implies}
 use Rattle.rule_text.specs.declared.token.Token.{Token}
-use Rattle.rule_text.specs.declared.token.Token.TheVariants.{Atom, Prefix, Operator, Mark}
-use Rattle.rule_text.specs.Token.{spelling, is_bracket, is_letter_mark, is_token, letter_or_digit, is_word}
+use Rattle.rule_text.specs.declared.token.Token.TheVariants.{Atom, Prefix, Operator}
+use Rattle.rule_text.specs.Token.{mark_byte, spelling, is_token, letter_or_digit, is_word}
+use Rattle.rule_text.specs.Token.{for_all_paths, on_some_path, until_mark, left_parenthesis, right_parenthesis, left_bracket, right_bracket}
 use Rattle.rule_text.specs.Scan.{Lexeme, lexeme, unknown, symbol, word1, word2, word3, lexed, first_lexeme}
 use Rattle.rule_text.proofs.Spelling.{numeral_one, numeral_two, Ended}
 
@@ -80,7 +81,7 @@ module _ (c : ℕ) (x : Text) where
   by_test false l m t f = f refl
 
   symbol_found : letter_or_digit c ≡ false → Found (c ∷ x) (symbol c (get_or x 0 0))
-  unfolding symbol is_token is_word spelling every letter_or_digit
+  unfolding symbol is_token is_word mark_byte spelling every letter_or_digit
   symbol_found n =
       by_test (eqb c 33) _ _
       (λ e. one_found (Prefix Not) refl (rw (eqb-true c 33 e)) (symbol_ended (Prefix Not) (get_or x 0 0) refl))
@@ -97,18 +98,31 @@ module _ (c : ℕ) (x : Text) where
       two_found (Operator Implies) refl (λ z. omega arith) (pair_is c 61 (get_or x 0 0) 62 e)
       (symbol_ended (Operator Implies) (get_or x 1 0) refl))
       (λ _.
-      by_test (is_bracket c) _ _
-      (λ e.
-      one_found (Mark c) (or_left (is_bracket c) (is_letter_mark c) e) refl
-      (symbol_ended (Mark c) (get_or x 0 0) (and_no_left (letter_or_digit c) true n)))
-      (λ _. inl refl)))))
+      by_test (eqb c 40) _ _
+      (λ e. one_found left_parenthesis refl (rw (eqb-true c 40 e)) (symbol_ended left_parenthesis (get_or x 0 0) refl))
+      (λ _.
+      by_test (eqb c 41) _ _
+      (λ e. one_found right_parenthesis refl (rw (eqb-true c 41 e)) (symbol_ended right_parenthesis (get_or x 0 0) refl))
+      (λ _.
+      by_test (eqb c 91) _ _
+      (λ e. one_found left_bracket refl (rw (eqb-true c 91 e)) (symbol_ended left_bracket (get_or x 0 0) refl))
+      (λ _.
+      by_test (eqb c 93) _ _
+      (λ e. one_found right_bracket refl (rw (eqb-true c 93 e)) (symbol_ended right_bracket (get_or x 0 0) refl))
+      (λ _. inl refl))))))))
 
   word1_found : letter_or_digit (get_or x 0 0) ≡ false → Found (c ∷ x) (word1 c)
-  unfolding word1 is_token spelling
+  unfolding word1 is_token mark_byte spelling
   word1_found n =
-      by_test (is_letter_mark c) _ _
-      (λ e. one_found (Mark c) (or_right (is_bracket c) (is_letter_mark c) e) refl (λ _. n))
-      (λ _. inl refl)
+      by_test (eqb c 65) _ _
+      (λ e. one_found for_all_paths refl (rw (eqb-true c 65 e)) (λ _. n))
+      (λ _.
+      by_test (eqb c 69) _ _
+      (λ e. one_found on_some_path refl (rw (eqb-true c 69 e)) (λ _. n))
+      (λ _.
+      by_test (eqb c 85) _ _
+      (λ e. one_found until_mark refl (rw (eqb-true c 85 e)) (λ _. n))
+      (λ _. inl refl)))
 
   word2_found : letter_or_digit (get_or x 0 0) ≡ true → letter_or_digit (get_or x 1 0) ≡ false → Found (c ∷ x) (word2 c (get_or x 0 0))
   unfolding word2 is_token spelling
@@ -156,7 +170,7 @@ module _ (c : ℕ) (x : Text) where
       (λ _. inl refl)
 
 lexeme_found : (x : Text) → Found x (first_lexeme x)
-unfolding first_lexeme lexed symbol letter_or_digit is_bracket
+unfolding first_lexeme lexed symbol letter_or_digit
 lexeme_found [] = inl refl
 lexeme_found (c ∷ x) =
     let d = get_or x 0 0 in

@@ -1,3 +1,4 @@
+pub mod MarkLaws
 pub mod Gives
 pub mod Descent
 pub mod AddLaws

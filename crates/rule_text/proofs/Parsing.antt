@@ -12,7 +12,7 @@ use Rattle.job.specs.Job.{Quantifier, for_all, exists}
 use Rattle.rule_text.specs.declared.token.Token.{Token}
 use Rattle.rule_text.specs.declared.token.Token.TheVariants.{Operator}
 use Rattle.rule_text.specs.Tree.{Tree}
-use Rattle.rule_text.specs.Token.{is_token, is_bracket, is_letter_mark, until_mark, right_parenthesis, right_bracket}
+use Rattle.rule_text.specs.Token.{is_token, until_mark, right_parenthesis, right_bracket}
 use Rattle.rule_text.specs.Grammar.{left_level, right_level, whole_rule, tightest, path_mark}
 use Rattle.rule_text.specs.Grammar.{Derives, an_atom, prefixed, in_parentheses, in_brackets, joins, tighter}
 use Rattle.rule_text.specs.Parse.{expression, found, parse}
@@ -41,12 +41,12 @@ tokens_append (t ∷ ts) us h g =
     (tokens_append ts us (and_right (is_token t) (every is_token ts) h) g)
 
 path_token : (q : Quantifier) → is_token (path_mark q) ≡ true
-unfolding path_mark is_token is_bracket is_letter_mark
+unfolding path_mark is_token
 path_token for_all = refl
 path_token exists = refl
 
 pub derives_tokens : (l : ℕ) (ts : List Token) (f : Tree) → Derives l ts f → every is_token ts ≡ true
-unfolding every is_token is_bracket is_letter_mark
+unfolding every is_token
 derives_tokens l ts f (an_atom j h) = and_intro (leb j 15) true (le-leb j 15 h) refl
 derives_tokens l ts f (prefixed p us g d) = derives_tokens tightest us g d
 derives_tokens l ts f (in_parentheses us g d) = tokens_append us (right_parenthesis ∷ []) (derives_tokens whole_rule us g d) refl

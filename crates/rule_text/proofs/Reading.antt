@@ -28,7 +28,7 @@ unfolding is_token atom_in_range
 token_in_range (Atom j) e = e
 token_in_range (Prefix p) e = refl
 token_in_range (Operator o) e = refl
-token_in_range (Mark c) e = refl
+token_in_range (Mark m) e = refl
 token_in_range Unknown e = refl
 
 first_in_range : (x : Text) → atom_in_range (first_lexeme x).token ≡ true
@@ -41,7 +41,7 @@ unfolding followed every atom_in_range
 followed_in_range (Atom j) ts e h = and_intro (leb j 15) (every atom_in_range ts) e h
 followed_in_range (Prefix p) ts e h = h
 followed_in_range (Operator o) ts e h = h
-followed_in_range (Mark c) ts e h = h
+followed_in_range (Mark m) ts e h = h
 followed_in_range Unknown ts e h = refl
 
 scan_in_range : (n : ℕ) (x : Text) → every atom_in_range (scan n x) ≡ true

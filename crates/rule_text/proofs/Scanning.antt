@@ -15,7 +15,7 @@ use Rattle.law.proofs.Bool.{split, clash, and_right}
 use Rattle.text.specs.Field.{Text}
 use Rattle.rule_text.specs.declared.token.Token.{Token}
 use Rattle.rule_text.specs.declared.token.Token.TheVariants.{Atom, Prefix, Operator, Mark, Unknown}
-use Rattle.rule_text.specs.Token.{spelling, is_bracket, is_token, letter_or_digit, starts_with_word, Apart, Spells, nothing, token, Spelled}
+use Rattle.rule_text.specs.Token.{spelling, is_token, letter_or_digit, starts_with_word, Apart, Spells, nothing, token, Spelled}
 use Rattle.rule_text.specs.Scan.{unknown, symbol, lexed, first_lexeme, followed, scan, tokens}
 use Rattle.rule_text.proofs.Spelling.{Ended, word_byte, lexeme_spelling}
 use Rattle.rule_text.proofs.Lexemes.{width_from, lexeme_is_token, lexeme_spelled, lexeme_ended}
@@ -56,16 +56,16 @@ unfolding followed is_token
 followed_token (Atom j) ts e = refl
 followed_token (Prefix p) ts e = refl
 followed_token (Operator o) ts e = refl
-followed_token (Mark c) ts e = refl
+followed_token (Mark m) ts e = refl
 followed_token Unknown ts e = absurd (true≢false (sym e))
 
 space_unknown : (c : ℕ) (x : Text) → c ≡ 32 → first_lexeme (c ∷ x) ≡ unknown
-unfolding first_lexeme lexed symbol is_bracket letter_or_digit
+unfolding first_lexeme lexed symbol letter_or_digit
 space_unknown c x e = rw e
 
 pub tokens_token :
     (x : Text) → is_token (first_lexeme x).token ≡ true → tokens x ≡ (first_lexeme x).token ∷ tokens (drop (first_lexeme x).width x)
-unfolding first_lexeme lexed symbol is_bracket letter_or_digit is_token
+unfolding first_lexeme lexed symbol letter_or_digit is_token
 tokens_token [] k = absurd (true≢false (sym k))
 tokens_token (c ∷ x) k =
     tokens_first c x (λ e. clash (is_token (first_lexeme (c ∷ x)).token) k (rw (space_unknown c x e)))

@@ -4,12 +4,14 @@ use mathlib.Core.Path.{◌≡◌, refl, sym, ◌∙◌, ap, subst}
 use mathlib.Core.Bool.{Bool, true}
 use mathlib.Core.List.{List, [], ◌∷◌, ◌++◌, append-nil, append_assoc}
 use native.Mathlib.Omega.{arith}
-use borrow.Author.Tests.{leb-true, leb-false, eqb-true}
-use lib.Dec.{leb, eqb}
+use borrow.Author.Tests.{leb-true, leb-false}
+use lib.Dec.{leb}
 use Rattle.law.specs.Lists.{every}
 use Rattle.law.proofs.Bool.{and_left, and_right}
 use Rattle.job.specs.Job.{for_all, exists}
 use Rattle.rule_text.specs.declared.token.Operator.{Operator as BinaryOperator}
+use Rattle.rule_text.specs.declared.token.Mark.{Mark as MarkKind}
+use Rattle.rule_text.specs.declared.token.Mark.TheVariants.{ForAllPaths, OnSomePath, Until, LeftParenthesis, RightParenthesis, LeftBracket, RightBracket}
 use Rattle.rule_text.specs.declared.token.Token.{Token}
 use Rattle.rule_text.specs.declared.token.Token.TheVariants.{Atom, Prefix, Operator, Mark, Unknown}
 use Rattle.rule_text.specs.Tree.{Tree, atom, prefix, binary, until}
@@ -17,7 +19,7 @@ use Rattle.rule_text.specs.Token.{until_mark, left_parenthesis, right_parenthesi
 use Rattle.rule_text.specs.Grammar.{strength, left_level, right_level, whole_rule, tightest, path_mark}
 use Rattle.rule_text.specs.Grammar.{Derives, an_atom, prefixed, in_parentheses, in_brackets, joins}
 use Rattle.rule_text.specs.Parse.{Goal, expression, operators, prefix_form, closed_form, parenthesized, until_form}
-use Rattle.rule_text.specs.Parse.{Parse, found, taking, read_operators, read_prefix, read_closed, read_step, depth, read_within, parse}
+use Rattle.rule_text.specs.Parse.{Parse, found, taking, read_operators, read_prefix, read_marked, read_closed, read_step, depth, read_within, parse}
 use Rattle.rule_text.proofs.Gives.{Gives, gives_more, cond_gives, and_then_gives, behind_gives}
 use Rattle.rule_text.proofs.Levels.{Stops, Ends, bounds, ends_stops, stops_tightest, ends_tightest, derives_weaker}
 
@@ -26,7 +28,7 @@ unfoldable pub atom_in_range : Token → Bool
 atom_in_range (Atom j) = leb j 15
 atom_in_range (Prefix p) = true
 atom_in_range (Operator o) = true
-atom_in_range (Mark c) = true
+atom_in_range (Mark m) = true
 atom_in_range Unknown = true
 
 abbrev InRange : List Token → Type 0
@@ -135,7 +137,7 @@ module _ (read : Goal → List Token → Parse) (sounds : Sounds read) where
   operators_sound least f (Atom j ∷ ts) h = untaken_sound least f (Atom j ∷ ts) tt
   operators_sound least f (Prefix p ∷ ts) h = untaken_sound least f (Prefix p ∷ ts) tt
   operators_sound least f (Operator o ∷ ts) h = operator_sound least f o ts h
-  operators_sound least f (Mark c ∷ ts) h = untaken_sound least f (Mark c ∷ ts) tt
+  operators_sound least f (Mark m ∷ ts) h = untaken_sound least f (Mark m ∷ ts) tt
   operators_sound least f (Unknown ∷ ts) h = untaken_sound least f (Unknown ∷ ts) tt
 
   prefix_sound : (ts : List Token) → InRange ts → Gives (Sound prefix_form ts) (read_prefix read ts)
@@ -149,33 +151,37 @@ module _ (read : Goal → List Token → Parse) (sounds : Sounds read) where
       reads_tight [] (Prefix p ∷ r.taken) (Prefix p ∷ ts) us (prefix p f) (ap (λ (xs : List Token). Prefix p ∷ xs) r.cut)
       (prefixed p r.taken f r.derived))
   prefix_sound (Operator o ∷ ts) h = sounds closed_form (Operator o ∷ ts) h
-  prefix_sound (Mark c ∷ ts) h = sounds closed_form (Mark c ∷ ts) h
+  prefix_sound (Mark m ∷ ts) h = sounds closed_form (Mark m ∷ ts) h
   prefix_sound (Unknown ∷ ts) h = sounds closed_form (Unknown ∷ ts) h
 
-  -- a closed form that starts with the mark d
-  marked_sound :
-      (goal : Goal) (c d : ℕ) (ts : List Token)
-      → eqb c d ≡ true
-      → InRange (Mark c ∷ ts)
-      → ((f : Tree) (us : List Token) → Sound goal ts f us → Takes tightest (Mark d ∷ []) ts f us)
-      → Gives (Sound closed_form (Mark c ∷ ts)) (read goal ts)
-  marked_sound goal c d ts e h more =
-      let m = ap (λ (x : ℕ). Mark x ∷ ts) (eqb-true c d e) in
-      later_sound closed_form goal (Mark c ∷ ts) (Mark d ∷ []) ts m h
-      (λ f us r. reads_after tightest [] (Mark d ∷ []) (Mark c ∷ ts) ts us f m (more f us r))
+  -- a closed form that starts with the mark m
+  behind_mark_sound :
+      (goal : Goal) (m : MarkKind) (ts : List Token)
+      → InRange (Mark m ∷ ts)
+      → ((f : Tree) (us : List Token) → Sound goal ts f us → Takes tightest (Mark m ∷ []) ts f us)
+      → Gives (Sound closed_form (Mark m ∷ ts)) (read goal ts)
+  behind_mark_sound goal m ts h more =
+      later_sound closed_form goal (Mark m ∷ ts) (Mark m ∷ []) ts refl h
+      (λ f us r. reads_after tightest [] (Mark m ∷ []) (Mark m ∷ ts) ts us f refl (more f us r))
+
+  marked_sound : (m : MarkKind) (ts : List Token) → InRange (Mark m ∷ ts) → Gives (Sound closed_form (Mark m ∷ ts)) (read_marked read m ts)
+  unfolding read_marked path_mark
+  marked_sound LeftParenthesis ts h = behind_mark_sound parenthesized LeftParenthesis ts h (λ f us r. r)
+  marked_sound ForAllPaths ts h = behind_mark_sound (until_form for_all) ForAllPaths ts h (λ f us r. r)
+  marked_sound OnSomePath ts h = behind_mark_sound (until_form exists) OnSomePath ts h (λ f us r. r)
+  marked_sound RightParenthesis ts h = tt
+  marked_sound LeftBracket ts h = tt
+  marked_sound RightBracket ts h = tt
+  marked_sound Until ts h = tt
 
   closed_sound : (ts : List Token) → InRange ts → Gives (Sound closed_form ts) (read_closed read ts)
-  unfolding read_closed path_mark every atom_in_range
+  unfolding read_closed every atom_in_range
   closed_sound [] h = tt
   closed_sound (Atom j ∷ ts) h =
       reads_tight [] (Atom j ∷ []) (Atom j ∷ ts) ts (atom j) refl (an_atom j (leb-true j 15 (and_left (leb j 15) (every atom_in_range ts) h)))
   closed_sound (Prefix p ∷ ts) h = tt
   closed_sound (Operator o ∷ ts) h = tt
-  closed_sound (Mark c ∷ ts) h =
-      let Closed = Sound closed_form (Mark c ∷ ts) in
-      cond_gives Closed (eqb c 40) _ _ (λ e. marked_sound parenthesized c 40 ts e h (λ f us r. r))
-      (λ n. cond_gives Closed (eqb c 65) _ _ (λ e. marked_sound (until_form for_all) c 65 ts e h (λ f us r. r))
-      (λ n. cond_gives Closed (eqb c 69) _ _ (λ e. marked_sound (until_form exists) c 69 ts e h (λ f us r. r)) (λ n. tt)))
+  closed_sound (Mark m ∷ ts) h = marked_sound m ts h
   closed_sound (Unknown ∷ ts) h = tt
 
   step_sound : Sounds (read_step read)
@@ -193,18 +199,18 @@ module _ (read : Goal → List Token → Parse) (sounds : Sounds read) where
   step_sound parenthesized ts h =
       and_then_gives (Sound parenthesized ts) (read (expression whole_rule) ts) _
       (λ f us e.
-      behind_gives (Sound parenthesized ts) 41 us _ (λ vs m.
+      behind_gives (Sound parenthesized ts) RightParenthesis us _ (λ vs m.
       let r = found_sound (expression whole_rule) ts us f h e (omega arith) in
       reads_tight (left_parenthesis ∷ []) (r.taken ++ (right_parenthesis ∷ [])) ts vs f
       (cut_again ts r.taken us (right_parenthesis ∷ []) vs r.cut m)
       (in_parentheses r.taken f r.derived)))
   step_sound (until_form q) ts h =
-      let Until = Sound (until_form q) ts in
-      behind_gives Until 91 ts _ (λ us left.
-      and_then_gives Until (read (expression whole_rule) us) _ (λ f vs e.
-      behind_gives Until 85 vs _ (λ ws middle.
-      and_then_gives Until (read (expression whole_rule) ws) _ (λ g xs d.
-      behind_gives Until 93 xs _ (λ ys right.
+      let Closed = Sound (until_form q) ts in
+      behind_gives Closed LeftBracket ts _ (λ us left.
+      and_then_gives Closed (read (expression whole_rule) us) _ (λ f vs e.
+      behind_gives Closed Until vs _ (λ ws middle.
+      and_then_gives Closed (read (expression whole_rule) ws) _ (λ g xs d.
+      behind_gives Closed RightBracket xs _ (λ ys right.
       let h1 = rest_in_range ts (left_bracket ∷ []) us left h in
       let r = found_sound (expression whole_rule) us vs f h1 e (omega arith) in
       let h2 = rest_in_range vs (until_mark ∷ []) ws middle (rest_in_range us r.taken vs r.cut h1) in

@@ -1,21 +1,21 @@
 -- A token that is spelled at the start of a text, with no word going on behind it, is what `first_lexeme` finds. Assumes nothing.
 use Prim.Native.Nat.{ℕ, ◌+◌, ◌-◌, ◌/◌, ◌%◌, ◌≤◌, ◌<◌}
-use mathlib.Core.Path.{◌≡◌, refl, sym, ap, subst, ◌∙◌}
-use mathlib.Core.Bool.{Bool, true, false, ◌||◌, and-true, true≢false}
+use mathlib.Core.Path.{◌≡◌, refl, sym, ap, ◌∙◌}
+use mathlib.Core.Bool.{true, false, and-true, true≢false}
 use mathlib.Core.List.{[], ◌∷◌, ◌++◌}
-use mathlib.Core.Logic.{⊎_elim}
 use native.Mathlib.Omega.{arith}
-use borrow.Author.Tests.{ltb-true, ltb-false, leb-true, eqb-true, lt-ltb, le-ltb, le-leb}
-use lib.Dec.{leb, ltb, eqb}
+use borrow.Author.Tests.{ltb-true, ltb-false, leb-true, lt-ltb, le-ltb, le-leb}
+use lib.Dec.{leb, ltb}
 use lib.ListN.{length, get_or}
 use Rattle.law.specs.Lists.{every}
-use Rattle.law.proofs.Bool.{split, and_intro, or_cases}
+use Rattle.law.proofs.Bool.{split, and_intro}
 use Rattle.text.specs.Field.{Text, is_digit}
 use Rattle.rule_text.specs.declared.token.Prefix.TheVariants.{Not, Ax, Ex, Eg, Ag}
 use Rattle.rule_text.specs.declared.token.Operator.TheVariants.{And, Or, Implies}
+use Rattle.rule_text.specs.declared.token.Mark.TheVariants.{ForAllPaths, OnSomePath, Until, LeftParenthesis, RightParenthesis, LeftBracket, RightBracket}
 use Rattle.rule_text.specs.declared.token.Token.{Token}
 use Rattle.rule_text.specs.declared.token.Token.TheVariants.{Atom, Prefix, Operator, Mark, Unknown}
-use Rattle.rule_text.specs.Token.{numeral, spelling, is_bracket, is_letter_mark, is_token, letter_or_digit, is_word}
+use Rattle.rule_text.specs.Token.{numeral, mark_byte, spelling, is_token, letter_or_digit, is_word}
 use Rattle.rule_text.specs.Scan.{lexeme, symbol, word1, word2, word3, lexed, first_lexeme}
 
 -- An atom's number has one digit or two.
@@ -32,25 +32,6 @@ numeral_two j l h =
 
 digit_intro : (c : ℕ) → 48 ≤ c → c ≤ 57 → is_digit c ≡ true
 digit_intro c l h = and_intro (leb 48 c) (leb c 57) (le-leb 48 c l) (le-leb c 57 h)
-
--- A byte that passes one of several tests.
-byte_is : (P : ℕ → Type 0) (c a : ℕ) → P a → eqb c a ≡ true → P c
-byte_is P c a p e = subst P (sym (eqb-true c a e)) p
-
-byte_or : (P : ℕ → Type 0) (c a : ℕ) (b : Bool) → P a → (b ≡ true → P c) → (eqb c a || b) ≡ true → P c
-byte_or P c a b p q e = ⊎_elim (byte_is P c a p) q (or_cases (eqb c a) b e)
-
-bracket_cases : (P : ℕ → Type 0) → P 40 → P 41 → P 91 → P 93 → (c : ℕ) → is_bracket c ≡ true → P c
-unfolding is_bracket
-bracket_cases P p q r s c =
-    byte_or P c 40 (eqb c 41 || (eqb c 91 || eqb c 93)) p
-    (byte_or P c 41 (eqb c 91 || eqb c 93) q
-    (byte_or P c 91 (eqb c 93) r
-    (byte_is P c 93 s)))
-
-letter_cases : (P : ℕ → Type 0) → P 65 → P 69 → P 85 → (c : ℕ) → is_letter_mark c ≡ true → P c
-unfolding is_letter_mark
-letter_cases P p q r c = byte_or P c 65 (eqb c 69 || eqb c 85) p (byte_or P c 69 (eqb c 85) q (byte_is P c 85 r))
 
 -- No letter or digit stands behind a word.
 abbrev pub Ended : Token → ℕ → Type 0
@@ -92,19 +73,6 @@ atom_first j y h n =
     let back : 38 + j - 38 ≡ j = omega arith in
     rw (numeral_two j l h) (atom_two (38 + j) y (omega arith) (omega arith) n ∙ ap (λ k. lexeme (Atom k) 3) back))
 
-bracket_first : (c : ℕ) (y : Text) → is_bracket c ≡ true → first_lexeme (c ∷ y) ≡ lexeme (Mark c) 1
-unfolding first_lexeme lexed symbol letter_or_digit is_bracket
-bracket_first c y = bracket_cases (λ k. first_lexeme (k ∷ y) ≡ lexeme (Mark k) 1) refl refl refl refl c
-
-letter_first :
-    (c : ℕ) (y : Text) → is_letter_mark c ≡ true → letter_or_digit (get_or y 0 0) ≡ false → first_lexeme (c ∷ y) ≡ lexeme (Mark c) 1
-unfolding first_lexeme lexed word1 is_letter_mark letter_or_digit
-letter_first c y e n = letter_cases (λ k. first_lexeme (k ∷ y) ≡ lexeme (Mark k) 1) (simp n) (simp n) (simp n) c e
-
-letter_word : (c : ℕ) → is_letter_mark c ≡ true → is_word (Mark c) ≡ true
-unfolding is_word spelling every letter_or_digit
-letter_word = letter_cases (λ c. is_word (Mark c) ≡ true) refl refl refl
-
 -- The first byte of a token's spelling tells whether it is a word.
 pub word_byte : (t : Token) (y : Text) → is_token t ≡ true → letter_or_digit (get_or (spelling t ++ y) 0 0) ≡ is_word t
 unfolding is_token is_word spelling every letter_or_digit
@@ -117,13 +85,13 @@ word_byte (Prefix Ag) y e = refl
 word_byte (Operator And) y e = refl
 word_byte (Operator Or) y e = refl
 word_byte (Operator Implies) y e = refl
-word_byte (Mark c) y e = sym (and-true (letter_or_digit c))
+word_byte (Mark m) y e = sym (and-true (letter_or_digit (mark_byte m)))
 word_byte Unknown y e = absurd (true≢false (sym e))
 
 pub lexeme_spelling :
     (t : Token) (y : Text) → is_token t ≡ true → Ended t (get_or y 0 0)
     → first_lexeme (spelling t ++ y) ≡ lexeme t (length (spelling t))
-unfolding first_lexeme lexed symbol word2 letter_or_digit is_token is_word spelling every
+unfolding first_lexeme lexed symbol word1 word2 letter_or_digit is_token is_word mark_byte spelling every
 lexeme_spelling (Atom j) y e n = let h = leb-true j 15 e in atom_first j y h (n (atom_word j h))
 lexeme_spelling (Prefix Not) y e n = refl
 lexeme_spelling (Prefix Ax) y e n = simp (n refl)
@@ -133,9 +101,11 @@ lexeme_spelling (Prefix Ag) y e n = simp (n refl)
 lexeme_spelling (Operator And) y e n = refl
 lexeme_spelling (Operator Or) y e n = refl
 lexeme_spelling (Operator Implies) y e n = refl
-lexeme_spelling (Mark c) y e n =
-    ⊎_elim
-    (bracket_first c y)
-    (λ letter. letter_first c y letter (n (letter_word c letter)))
-    (or_cases (is_bracket c) (is_letter_mark c) e)
+lexeme_spelling (Mark ForAllPaths) y e n = simp (n refl)
+lexeme_spelling (Mark OnSomePath) y e n = simp (n refl)
+lexeme_spelling (Mark Until) y e n = simp (n refl)
+lexeme_spelling (Mark LeftParenthesis) y e n = refl
+lexeme_spelling (Mark RightParenthesis) y e n = refl
+lexeme_spelling (Mark LeftBracket) y e n = refl
+lexeme_spelling (Mark RightBracket) y e n = refl
 lexeme_spelling Unknown y e n = absurd (true≢false (sym e))

@@ -18,10 +18,10 @@ use Rattle.job.specs.declared.subformula.Subformula.TheVariants as kind
 use Rattle.rule_text.specs.declared.token.Prefix.TheVariants.{Not, Ax, Eg, Ag}
 use Rattle.rule_text.specs.declared.token.Operator.TheVariants.{And, Or, Implies}
 use Rattle.rule_text.specs.Tree.{Tree, atom, prefix, binary, until}
-use Rattle.rule_text.specs.Token.{is_bracket, is_letter_mark, letter_or_digit}
+use Rattle.rule_text.specs.Token.{mark_byte, same_mark, letter_or_digit}
 use Rattle.rule_text.specs.Grammar.{strength, groups_left, right_level}
 use Rattle.rule_text.specs.Scan.{symbol, word1, word2, word3, lexed, first_lexeme, followed, scan, tokens}
-use Rattle.rule_text.specs.Parse.{and_then, behind, taking, read_operators, read_prefix, read_closed, read_step, goal_rank, depth, read_within, parse, whole, reading}
+use Rattle.rule_text.specs.Parse.{and_then, behind, taking, read_operators, read_prefix, read_marked, read_closed, read_step, goal_rank, depth, read_within, parse, whole, reading}
 use Rattle.rule_text.specs.Lines.{joining, rewritten, prefix_line, until_line, equal, place, add, placed, lines_of, lines_text}
 use Rattle.rule_text.specs.RuleCall.{rule_lines, InLimits}
 use Rattle.rule_text.proofs.Reading.{reading_means}
@@ -32,7 +32,7 @@ quoted end = []
 quoted (c then cs) = code c ∷ quoted cs
 
 unfoldable pub tree_of : String → Option Tree
-unfolding quoted is_bracket is_letter_mark letter_or_digit symbol word1 word2 word3 lexed first_lexeme followed scan tokens strength groups_left right_level and_then behind taking read_operators read_prefix read_closed read_step goal_rank depth read_within parse whole reading
+unfolding quoted mark_byte same_mark letter_or_digit symbol word1 word2 word3 lexed first_lexeme followed scan tokens strength groups_left right_level and_then behind taking read_operators read_prefix read_marked read_closed read_step goal_rank depth read_within parse whole reading
 tree_of s = reading (quoted s)
 
 unfoldable pub lines_in : String → List Subformula

@@ -7,7 +7,7 @@ use Rattle.rule_text.specs.declared.token.Operator.TheVariants.{And, Or, Implies
 use Rattle.rule_text.specs.declared.token.Token.{Token}
 use Rattle.rule_text.specs.declared.token.Token.TheVariants.{Atom, Prefix, Operator, Mark, Unknown}
 pub use Rattle.rule_text.specs.declared.token.Lexeme.{Lexeme}
-use Rattle.rule_text.specs.Token.{is_bracket, is_letter_mark, letter_or_digit}
+use Rattle.rule_text.specs.Token.{letter_or_digit, for_all_paths, on_some_path, until_mark, left_parenthesis, right_parenthesis, left_bracket, right_bracket}
 
 abbrev pub lexeme : Token → ℕ → Lexeme
 lexeme t n = record { token = t; width = n }
@@ -22,11 +22,17 @@ symbol c d =
     (cond (eqb c 38) (lexeme (Operator And) 1)
     (cond (eqb c 124) (lexeme (Operator Or) 1)
     (cond (eqb c 61 && eqb d 62) (lexeme (Operator Implies) 2)
-    (cond (is_bracket c) (lexeme (Mark c) 1) unknown))))
+    (cond (eqb c 40) (lexeme left_parenthesis 1)
+    (cond (eqb c 41) (lexeme right_parenthesis 1)
+    (cond (eqb c 91) (lexeme left_bracket 1)
+    (cond (eqb c 93) (lexeme right_bracket 1) unknown)))))))
 
 -- A word of one, two or three letters and digits.
 unfoldable pub word1 : ℕ → Lexeme
-word1 c = cond (is_letter_mark c) (lexeme (Mark c) 1) unknown
+word1 c =
+    cond (eqb c 65) (lexeme for_all_paths 1)
+    (cond (eqb c 69) (lexeme on_some_path 1)
+    (cond (eqb c 85) (lexeme until_mark 1) unknown))
 
 unfoldable pub word2 : ℕ → ℕ → Lexeme
 word2 c d =
@@ -56,7 +62,7 @@ unfoldable pub followed : Token → List Token → List Token
 followed (Atom j) ts = Atom j ∷ ts
 followed (Prefix p) ts = Prefix p ∷ ts
 followed (Operator o) ts = Operator o ∷ ts
-followed (Mark c) ts = Mark c ∷ ts
+followed (Mark m) ts = Mark m ∷ ts
 followed Unknown ts = Unknown ∷ []
 
 -- The tokens of a text of which n bytes are passed over first: those of the token before.

@@ -6,12 +6,28 @@ use Rattle.law.specs.Lists.{every}
 use Rattle.text.specs.Field.{Text}
 use Rattle.rule_text.specs.declared.token.Prefix.TheVariants.{Not, Ax, Ex, Eg, Ag}
 use Rattle.rule_text.specs.declared.token.Operator.TheVariants.{And, Or, Implies}
+use Rattle.rule_text.specs.declared.token.Mark.{Mark as MarkKind}
+use Rattle.rule_text.specs.declared.token.Mark.TheVariants.{ForAllPaths, OnSomePath, Until, LeftParenthesis, RightParenthesis, LeftBracket, RightBracket}
 use Rattle.rule_text.specs.declared.token.Token.{Token}
 use Rattle.rule_text.specs.declared.token.Token.TheVariants.{Atom, Prefix, Operator, Mark, Unknown}
 
 -- An atom's number in decimal, of one digit or two.
 unfoldable pub numeral : ℕ → List ℕ
 numeral j = cond (ltb j 10) ((48 + j) ∷ []) ((48 + j / 10) ∷ (48 + j % 10) ∷ [])
+
+-- `A`, `E`, `U`, `(`, `)`, `[`, `]`
+unfoldable pub mark_byte : MarkKind → ℕ
+mark_byte ForAllPaths = 65
+mark_byte OnSomePath = 69
+mark_byte Until = 85
+mark_byte LeftParenthesis = 40
+mark_byte RightParenthesis = 41
+mark_byte LeftBracket = 91
+mark_byte RightBracket = 93
+
+-- Two marks are the same: their bytes are.
+unfoldable pub same_mark : MarkKind → MarkKind → Bool
+same_mark m n = eqb (mark_byte m) (mark_byte n)
 
 -- `p3`, `!`, `AX`, `EX`, `EG`, `AG`, `&`, `|`, `=>`; a mark is its byte
 unfoldable pub spelling : Token → List ℕ
@@ -24,44 +40,38 @@ spelling (Prefix Ag) = 65 ∷ 71 ∷ []
 spelling (Operator And) = 38 ∷ []
 spelling (Operator Or) = 124 ∷ []
 spelling (Operator Implies) = 61 ∷ 62 ∷ []
-spelling (Mark c) = c ∷ []
+spelling (Mark m) = mark_byte m ∷ []
 spelling Unknown = []
 
 -- `A`, `E`, `U`
 abbrev pub for_all_paths : Token
-for_all_paths = Mark 65
+for_all_paths = Mark ForAllPaths
 
 abbrev pub on_some_path : Token
-on_some_path = Mark 69
+on_some_path = Mark OnSomePath
 
 abbrev pub until_mark : Token
-until_mark = Mark 85
+until_mark = Mark Until
 
 -- `(`, `)`, `[`, `]`
 abbrev pub left_parenthesis : Token
-left_parenthesis = Mark 40
+left_parenthesis = Mark LeftParenthesis
 
 abbrev pub right_parenthesis : Token
-right_parenthesis = Mark 41
+right_parenthesis = Mark RightParenthesis
 
 abbrev pub left_bracket : Token
-left_bracket = Mark 91
+left_bracket = Mark LeftBracket
 
 abbrev pub right_bracket : Token
-right_bracket = Mark 93
+right_bracket = Mark RightBracket
 
-unfoldable pub is_bracket : ℕ → Bool
-is_bracket c = eqb c 40 || (eqb c 41 || (eqb c 91 || eqb c 93))
-
-unfoldable pub is_letter_mark : ℕ → Bool
-is_letter_mark c = eqb c 65 || (eqb c 69 || eqb c 85)
-
--- The tokens of the grammar: p0 to p15, the operators, and these marks.
+-- The tokens of the grammar: p0 to p15, the operators, and the marks.
 unfoldable pub is_token : Token → Bool
 is_token (Atom j) = leb j 15
 is_token (Prefix p) = true
 is_token (Operator o) = true
-is_token (Mark c) = is_bracket c || is_letter_mark c
+is_token (Mark m) = true
 is_token Unknown = false
 
 unfoldable pub letter_or_digit : ℕ → Bool

@@ -1,6 +1,6 @@
 // The tokens of rule text.
 
-#[derive(Clone, Copy)]
+#[derive(Clone, Copy, Debug, PartialEq, Eq)]
 pub enum Prefix {
     Not,
     Ax,
@@ -9,26 +9,37 @@ pub enum Prefix {
     Ag,
 }
 
-#[derive(Clone, Copy)]
+#[derive(Clone, Copy, Debug, PartialEq, Eq)]
 pub enum Operator {
     And,
     Or,
     Implies,
 }
 
-#[derive(Clone, Copy)]
+// `A`, `E`, `U` and the brackets
+#[derive(Clone, Copy, Debug, PartialEq, Eq)]
+pub enum Mark {
+    ForAllPaths,
+    OnSomePath,
+    Until,
+    LeftParenthesis,
+    RightParenthesis,
+    LeftBracket,
+    RightBracket,
+}
+
+#[derive(Clone, Copy, Debug, PartialEq, Eq)]
 pub enum Token {
     Atom(usize),
     Prefix(Prefix),
     Operator(Operator),
-    // A, E, U or a bracket, by its byte
-    Mark(u8),
+    Mark(Mark),
     // bytes that are no token
     Unknown,
 }
 
 // A token, and how many bytes spell it.
-#[derive(Clone, Copy)]
+#[derive(Clone, Copy, Debug, PartialEq, Eq)]
 pub struct Lexeme {
     pub token: Token,
     pub width: usize,

@@ -1,51 +1,18 @@
--- An answer by a chain of tests, `||`, `&&` or `cond`, one after the other. Assumes nothing.
-use Prim.Native.Nat.{ℕ, ◌≤◌}
-use mathlib.Core.Path.{◌≡◌, refl, sym, ap, ◌∙◌}
-use mathlib.Core.Bool.{Bool, true, false, not, cond, ◌&&◌, ◌||◌, true≢false}
-use native.Mathlib.Omega.{arith}
-use lib.Dec.{leb, eqb}
-use borrow.Author.Tests.{leb-true}
-pub use borrow.Author.Tests.{eq-eqb, ne_eqb, le-leb, lt-leb}
-use Rattle.law.proofs.Bool.{and_left, and_right, cond_true, cond_false}
+-- A word ends where its letters and digits end: the test of the code is that of the definition. Assumes nothing.
+use Prim.Native.Nat.{ℕ}
+use mathlib.Core.Path.{◌≡◌, refl, sym, ◌∙◌}
+use mathlib.Core.Bool.{Bool, true, false, ◌||◌}
+use Rattle.std.specs.Int.{is_in_range}
+use Rattle.std.specs.Char.{is_ascii_alphanumeric}
+use Rattle.rule_text.specs.Token.{letter_or_digit}
 
--- A test that a call has answered.
-pub test_told : (a r v : Bool) → r ≡ a → r ≡ v → a ≡ v
-test_told a r v e t = sym e ∙ t
+or_grouped : (a b d : Bool) → (a || (b || d)) ≡ ((a || b) || d)
+or_grouped true b d = refl
+or_grouped false b d = refl
 
-pub not_told : (a r v : Bool) → r ≡ a → not r ≡ v → not a ≡ v
-not_told a r v e t = ap not (sym e) ∙ t
+letters : (c : ℕ) → letter_or_digit c ≡ is_ascii_alphanumeric c
+unfolding letter_or_digit
+letters c = or_grouped (is_in_range 48 57 c) (is_in_range 65 90 c) (is_in_range 97 122 c)
 
-pub or_yes : (a b : Bool) → a ≡ true → true ≡ (a || b)
-or_yes true b t = refl
-or_yes false b t = absurd (true≢false (sym t))
-
-pub or_no : (a b r : Bool) → a ≡ false → r ≡ b → r ≡ (a || b)
-or_no true b r t e = absurd (true≢false t)
-or_no false b r t e = e
-
-pub and_yes : (a b r : Bool) → a ≡ true → r ≡ b → r ≡ (a && b)
-and_yes true b r t e = e
-and_yes false b r t e = absurd (true≢false (sym t))
-
-pub and_no : (a b : Bool) → a ≡ false → false ≡ (a && b)
-and_no true b t = absurd (true≢false t)
-and_no false b t = refl
-
-module _ {A : Type 0} (a : Bool) (x y r : A) where
-  pub cond_yes : a ≡ true → r ≡ x → r ≡ cond a x y
-  cond_yes t e = e ∙ sym (cond_true a x y t)
-
-  pub cond_no : a ≡ false → r ≡ y → r ≡ cond a x y
-  cond_no t e = e ∙ sym (cond_false a x y t)
-
-pub ruleset tests = (eq-eqb, ne_eqb, le-leb, lt-leb, test_told, or_yes, or_no, and_yes, and_no, cond_yes, cond_no)
-
--- The digit of an atom is not below the byte that is taken off it.
-pub units_from : (c d : ℕ) (r : Bool) → r ≡ (eqb c 112 && (leb 48 d && leb d 57)) → r ≡ true → 48 ≤ d
-units_from c d r e t = let is = sym e ∙ t in search (and_left, and_right, leb-true)
-
-pub teens_from : (c d e : ℕ) (r : Bool) → r ≡ (eqb c 112 && (eqb d 49 && (leb 48 e && leb e 53))) → r ≡ true → 38 ≤ e
-teens_from c d e r is t =
-    let all = sym is ∙ t in
-    let h : 48 ≤ e = search (and_left, and_right, leb-true) in
-    omega arith
+pub word_tested : (c : ℕ) (r v : Bool) → r ≡ is_ascii_alphanumeric c → r ≡ v → letter_or_digit c ≡ v
+word_tested c r v e t = letters c ∙ sym e ∙ t

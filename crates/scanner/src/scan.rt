@@ -1,48 +1,46 @@
-// The next token of a text, behind spaces.
-ghost use Rattle.std.specs.Prelude.{◌≡◌, ◌≤◌, length};
-ghost use Rattle.scanner.specs.Scanned.{Skips, Scans};
+// The first token of a text, behind spaces.
+ghost use Rattle.std.specs.Prelude.{◌≡◌, length};
+ghost use Rattle.std.specs.List.{take_while};
+ghost use Rattle.scanner.specs.Scanned.{is_space, Skips, Scans};
 
 use crate::lexeme::lexeme;
 use rule_text::token::Token;
 
-// A token, and the place behind it and behind the spaces there, so that no space is walked over twice.
+// A token, and the text behind it and behind the spaces there, so that no space is walked over twice.
 #[derive(Clone, Copy)]
-pub struct Scanned {
+pub struct Scanned<'a> {
     pub token: Token,
-    pub behind: usize,
+    pub behind: &'a [u8],
 }
 
-// The first place at or behind `at` that is no space.
-pub fn skip_spaces(text: &[u8], at: usize) -> usize
-    requires { at ≤ length text.now }
-    ensures { Skips text.now at result }
+// How many spaces the text starts with.
+fn space_count(text: &[u8]) -> usize
+    ensures { result ≡ length (take_while is_space text.now) }
 {
-    let mut i = at;
-    while i < text.len() {
-        if text[i] != b' ' {
-            return i;
-        }
-        i += 1;
-    }
-    i
+    text.iter().take_while(|&&c| c == b' ').count()
 }
 
-// The token at or behind `at`; at the end of the text it is unknown.
-pub fn token_at(text: &[u8], at: usize) -> Scanned
-    requires { at ≤ length text.now }
-    ensures { Scans text.now at result }
+// The text behind the spaces that it starts with.
+pub fn skip_spaces(text: &[u8]) -> &[u8]
+    ensures { Skips text.now result.now }
 {
-    let start = skip_spaces(text, at);
-    if text.len() <= start {
+    &text[space_count(text)..]
+}
+
+// The first token; at the end of the text it is unknown.
+pub fn first_token(text: &[u8]) -> Scanned<'_>
+    ensures { Scans text.now result.token result.behind.now }
+{
+    let start = skip_spaces(text);
+    if start.is_empty() {
         return Scanned {
             token: Token::Unknown,
             behind: start,
         };
     }
-    let l = lexeme(text, start);
-    let token = l.token;
+    let l = lexeme(start);
     Scanned {
-        token,
-        behind: skip_spaces(text, start + l.width),
+        token: l.token,
+        behind: skip_spaces(&start[l.width..]),
     }
 }

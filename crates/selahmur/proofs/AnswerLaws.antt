@@ -19,9 +19,8 @@ use Rattle.numbers.proofs.StoredLaws.{stored_front}
 use Rattle.selahmur.specs.StoredAnswer.{stored_answer}
 
 -- the numbers of what a call told, which is its answer
-pub stored_told : (out : List ℕ) {last ns : List ℕ} {a b : Answer} → ns ≡ numbers a → a ≡ b → last ≡ stored out ns
-    → last ≡ stored out (numbers b)
-stored_told out all same e = e ∙ ap (stored out) (all ∙ ap numbers same)
+pub stored_told : (out : List ℕ) {last : List ℕ} {a b : Answer} → a ≡ b → last ≡ stored out (numbers a) → last ≡ stored out (numbers b)
+stored_told out same e = e ∙ ap (λ a. stored out (numbers a)) same
 
 own_width : (c : Call) (J : Job) (t : Table) → length (told c J t) ≡ width c
 unfolding told width

@@ -5,7 +5,6 @@ ghost use Rattle.selahmur.specs.StoredAnswer.{stored_answer};
 
 use calls::accept::accept;
 use calls::offer::{Message, offer};
-use numbers::answers::{of_accept, of_offer};
 use numbers::store::store;
 
 // Hands out a message from the owner's cell. Own numbers: state, subformula, value.
@@ -20,7 +19,7 @@ pub extern "C" fn selahmur_offer(
     ensures told { out.new ≡ stored_answer out.old (Call.offer state subformula) text.now table.now }
     ensures left { table.now ≡ after (Call.offer state subformula) text.now table.now }
 {
-    store(out, &of_offer(offer(text, table, state, subformula)));
+    store(out, offer(text, table, state, subformula));
 }
 
 // A node's cell at a border state takes a message's value, if it is empty. Own number: how many cells are filled, 0 or 1.
@@ -43,5 +42,5 @@ pub extern "C" fn selahmur_accept(
         subformula,
         value,
     };
-    store(out, &of_accept(accept(text, table, node, message)));
+    store(out, accept(text, table, node, message));
 }

@@ -5,7 +5,6 @@ ghost use Rattle.page_text.specs.PageCall.{page_buffer};
 ghost use Rattle.selahmur.specs.StoredAnswer.{stored_answer};
 
 use calls::page::page;
-use numbers::answers::of_page;
 use numbers::store::store;
 
 // Writes the page of a node's table at the start of the buffer; the bytes behind it stay, and so does the table. No numbers of its own.
@@ -22,5 +21,5 @@ pub extern "C" fn selahmur_page(
     ensures left { table.now ≡ after (Call.page node (length buffer.old)) text.now table.now }
     ensures written { buffer.new ≡ page_buffer text.now table.now node buffer.old }
 {
-    store(out, &of_page(page(text, table, node, buffer)));
+    store(out, page(text, table, node, buffer));
 }

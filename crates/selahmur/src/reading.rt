@@ -5,16 +5,15 @@ ghost use Rattle.job.specs.Read.{read_answer, line_start, line_length};
 ghost use Rattle.numbers.specs.Stored.{stored};
 
 use calls::read::read;
-use layout::lines::line_part;
-use numbers::answers::of_read;
-use numbers::store::store;
+use layout::lines::{Part, line_part};
+use numbers::store::{put_all, store};
 
 // Questions 1 to 8. Own numbers: states, edges, subformulas, nodes.
 #[unsafe(no_mangle)]
 pub extern "C" fn selahmur_read(text: &[u8], out: &mut [usize])
     ensures { out.new ≡ stored out.old (numbers (read_answer text.now)) }
 {
-    store(out, &of_read(read(text)));
+    store(out, read(text));
 }
 
 // Where line `number` of the text stands, counted from 1 and without byte 10: its first byte and how many there are, 0 and 0 where there is
@@ -24,6 +23,6 @@ pub extern "C" fn selahmur_line(text: &[u8], number: usize, out: &mut [usize])
     ensures { out.new
         ≡ stored out.old (line_start text.now number ∷ line_length text.now number ∷ []) }
 {
-    let part = line_part(text, number);
-    store(out, &[part.start, part.size]);
+    let part = line_part(text, number).unwrap_or(Part { start: 0, size: 0 });
+    put_all(out, 0, &[part.start, part.size]);
 }

@@ -4,7 +4,6 @@ ghost use Rattle.job.specs.Answer.{numbers};
 ghost use Rattle.rule_text.specs.RuleCall.{rule_answer, rule_buffer};
 ghost use Rattle.numbers.specs.Stored.{stored};
 
-use numbers::answers::of_rule;
 use numbers::store::store;
 use rule_call::rule::rule;
 
@@ -14,5 +13,5 @@ pub extern "C" fn selahmur_rule(text: &[u8], buffer: &mut [u8], out: &mut [usize
     ensures told { out.new ≡ stored out.old (numbers (rule_answer text.now buffer.old)) }
     ensures left { buffer.new ≡ rule_buffer text.now buffer.old }
 {
-    store(out, &of_rule(rule(text, buffer)));
+    store(out, rule(text, buffer));
 }

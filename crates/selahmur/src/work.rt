@@ -8,7 +8,6 @@ use calls::finish::finish;
 use calls::fresh::fresh;
 use calls::look::look;
 use calls::step::step;
-use numbers::answers::{of_close, of_finish, of_fresh, of_look, of_step};
 use numbers::store::store;
 
 // Makes every cell empty. No numbers of its own.
@@ -17,7 +16,7 @@ pub extern "C" fn selahmur_fresh(text: &[u8], table: &mut [u8], out: &mut [usize
     ensures told { out.new ≡ stored_answer out.old Call.fresh text.now table.old }
     ensures left { table.new ≡ after Call.fresh text.now table.old }
 {
-    store(out, &of_fresh(fresh(text, table)));
+    store(out, fresh(text, table));
 }
 
 // The step of one node. Own number: how many cells are filled.
@@ -26,7 +25,7 @@ pub extern "C" fn selahmur_step(text: &[u8], table: &mut [u8], node: usize, out:
     ensures told { out.new ≡ stored_answer out.old (Call.step node) text.now table.old }
     ensures left { table.new ≡ after (Call.step node) text.now table.old }
 {
-    store(out, &of_step(step(text, table, node)));
+    store(out, step(text, table, node));
 }
 
 // The cell of a node, state and subformula; node 255 names none and is read as the state's owner. Own number: the cell, 2 where it is empty.
@@ -43,7 +42,7 @@ pub extern "C" fn selahmur_look(
         ≡ stored_answer out.old (Call.look node state subformula) text.now table.now }
     ensures left { table.now ≡ after (Call.look node state subformula) text.now table.now }
 {
-    store(out, &of_look(look(text, table, node, state, subformula)));
+    store(out, look(text, table, node, state, subformula));
 }
 
 // Makes the empty cells of the smallest open subformula 0, on a settled table. Own numbers: that subformula, how many cells are filled.
@@ -52,7 +51,7 @@ pub extern "C" fn selahmur_close(text: &[u8], table: &mut [u8], out: &mut [usize
     ensures told { out.new ≡ stored_answer out.old Call.close text.now table.old }
     ensures left { table.new ≡ after Call.close text.now table.old }
 {
-    store(out, &of_close(close(text, table)));
+    store(out, close(text, table));
 }
 
 // Rounds until one fills nothing. Own numbers: the verdict, the rounds done, the cells filled.
@@ -61,5 +60,5 @@ pub extern "C" fn selahmur_finish(text: &[u8], table: &mut [u8], out: &mut [usiz
     ensures told { out.new ≡ stored_answer out.old Call.finish text.now table.old }
     ensures left { table.new ≡ after Call.finish text.now table.old }
 {
-    store(out, &of_finish(finish(text, table)));
+    store(out, finish(text, table));
 }

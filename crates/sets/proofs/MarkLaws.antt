@@ -24,16 +24,18 @@ use Rattle.cells.specs.Step.{opposite, known}
 use Rattle.cells.proofs.Index.{index_lt, node_of_index, state_of_index}
 use Rattle.cells.proofs.Right.{right_is}
 use Rattle.cells.proofs.Tells.{by_cell}
-use Rattle.image.specs.Image.{job_of, place_of, rank, fragment_size, fragment_state}
+use Rattle.image.specs.Image.{rank, fragment_size, fragment_state}
+use Rattle.image.specs.Denoted.{job_of}
 use Rattle.image.proofs.Ranks.{state_below, state_inside, rank_state, rank_below, state_rank}
-use Rattle.image.proofs.Places.{place_inner}
+use Rattle.image.specs.declared.image.Image.{Image}
+use Rattle.image.proofs.ImageLaws.{image_job}
 use Rattle.table.specs.Lent.{Ready, IsCell}
 use Rattle.table.specs.Column.{cells_of}
 use Rattle.spread.specs.Spread.{spread_rule, Joinable, Spread}
 use Rattle.spread.proofs.Turn.{rule_mono}
-use Rattle.sets.specs.declared.sets.Growth.{Growth}
+use Rattle.job.specs.declared.rule.Growth.{Growth}
 use Rattle.sets.specs.declared.sets.Marking.{Marking}
-use Rattle.sets.specs.Marks.{rule_by, mark, counts, wanted, marking_of, CellsIn, mark_by, mark_at, grows, IsSet, Marks}
+use Rattle.sets.specs.Marks.{rule_by, unknown, mark, counts, wanted, marking_of, CellsIn, mark_by, mark_at, grows, IsSet, Marks}
 
 module _ (J : Job) (job : IsJob J) (n : ℕ) (f : ℕ → ℕ) (d : ℕ) where
   pub marks_start : Marks J n f d 0 (replicate 256 d)
@@ -104,14 +106,13 @@ module _ (J : Job) (job : IsJob J) (n : ℕ) (f : ℕ → ℕ) (d : ℕ) where
 
     -- a state of the fragment alone has mark 1
     pub joinable :
-        (d ≡ 1 → ⊥) → ((s : ℕ) → f s ≡ 1 → eqb (place_of J n s) 2 ≡ true) → Joinable J n marks
+        (d ≡ 1 → ⊥) → ((s : ℕ) → f s ≡ 1 → inner J n s ≡ true) → Joinable J n marks
     joinable apart only =
         record {
           long = done.long;
           inside =
               λ s e.
-              sym (place_inner J n s)
-              ∙ by_order s 256
+              by_order s 256
               (λ l.
               split (in_fragment J n s)
               (λ t. only s (sym (marks_over s l ∙ cond_true (in_fragment J n s) (f s) d t) ∙ e))
@@ -123,9 +124,9 @@ module _ (J : Job) (job : IsJob J) (n : ℕ) (f : ℕ → ℕ) (d : ℕ) where
         }
 
 -- A state's mark by the tests of the code.
-module _ (also v place own : ℕ) (starts grows : Bool) where
+module _ (wide : Bool) (v : ℕ) (inside : Bool) (own : ℕ) (starts grows : Bool) where
   abbrev its : ℕ
-  its = mark also v place own starts grows
+  its = mark wide v inside own starts grows
 
   pub mark_own : own ≡ v → 2 ≡ its
   unfolding mark
@@ -137,34 +138,34 @@ module _ (also v place own : ℕ) (starts grows : Bool) where
     mark_other f = simp (ne_eqb own v apart, ne_eqb own 2 f)
 
     module _ (empty : own ≡ 2) where
-      pub mark_border : (place ≡ 2 → ⊥) → also ≡ its
+      pub mark_border : inside ≡ false → unknown wide ≡ its
       unfolding mark is_empty
-      mark_border f = simp (ne_eqb own v apart, eq-eqb own 2 empty, ne_eqb place 2 f)
+      mark_border f = simp (ne_eqb own v apart, eq-eqb own 2 empty, f)
 
-      module _ (in_place : place ≡ 2) where
+      module _ (here : inside ≡ true) where
         pub mark_start : starts ≡ true → 2 ≡ its
         unfolding mark is_empty
-        mark_start e = simp (ne_eqb own v apart, eq-eqb own 2 empty, eq-eqb place 2 in_place, e)
+        mark_start e = simp (ne_eqb own v apart, eq-eqb own 2 empty, here, e)
 
         pub mark_grow : starts ≡ false → grows ≡ true → 1 ≡ its
         unfolding mark is_empty
-        mark_grow e f = simp (ne_eqb own v apart, eq-eqb own 2 empty, eq-eqb place 2 in_place, e, f)
+        mark_grow e f = simp (ne_eqb own v apart, eq-eqb own 2 empty, here, e, f)
 
         pub mark_no_join : starts ≡ false → grows ≡ false → 0 ≡ its
         unfolding mark is_empty
-        mark_no_join e f = simp (ne_eqb own v apart, eq-eqb own 2 empty, eq-eqb place 2 in_place, e, f)
+        mark_no_join e f = simp (ne_eqb own v apart, eq-eqb own 2 empty, here, e, f)
 
 -- the same by the cells as they were read, one after the other
 module _ (J : Job) (t : Table) (n s : ℕ) (by : Marking) where
   pub mark_by_cells :
-      {x o p b a : ℕ}
+      {x o b a : ℕ} {p : Bool}
       → o ≡ cell J t n s by.own.subformula
-      → p ≡ place_of J n s
+      → p ≡ inner J n s
       → b ≡ cell J t n s by.start.subformula
       → a ≡ cell J t n s by.grow.subformula
-      → x ≡ mark by.also by.own.value p o (counts by.also by.start.value b) (counts by.also by.grow.value a)
+      → x ≡ mark by.wide by.own.value p o (counts by.wide by.start.value b) (counts by.wide by.grow.value a)
       → x ≡ mark_by J t n s by
-  mark_by_cells own place b a e = rw (own, place, b, a) at e
+  mark_by_cells own inside b a e = rw (own, inside, b, a) at e
 
 -- A condition wants a cell of the rule's own column or of an operand's.
 wanted_in : (k n : ℕ) → k < n → (c : Condition) → AsksSmaller k c → (wanted k c).subformula < n
@@ -173,37 +174,41 @@ wanted_in k n l (Holds a) o = omega arith
 wanted_in k n l (Fails a) o = omega arith
 
 -- Where the own cell is empty, what is wanted is there where the condition counts as met; elsewhere the mark does not ask.
-module _ (at : ℕ → ℕ → ℕ) (s k also : ℕ) (low : (j : ℕ) → at j s ≤ 2) (high : 2 ≤ also) where
+module _ (at : ℕ → ℕ → ℕ) (s k : ℕ) (wide : Bool) (low : (j : ℕ) → at j s ≤ 2) where
   -- whether a cell is the one that is wanted, or counts besides
   abbrev read : Condition → Bool
-  read c = counts also (wanted k c).value (at (wanted k c).subformula s)
+  read c = counts wide (wanted k c).value (at (wanted k c).subformula s)
 
-  wanted_counts : at k s ≡ 2 → (c : Condition) → read c ≡ counts also 1 (known at c s)
+  wanted_counts : at k s ≡ 2 → (c : Condition) → read c ≡ counts wide 1 (known at c s)
   unfolding known opposite is_empty
   wanted_counts empty Always = rw empty refl
   wanted_counts empty (Holds a) = refl
   wanted_counts empty (Fails a) =
       by_cell (at a s) (low a)
       (λ e. rw e refl)
-      (λ e. rw (e, ne_eqb 1 also (λ h. omega arith), ne_eqb 0 also (λ h. omega arith)) refl)
+      (λ e. rw e refl)
       (λ e. rw e refl)
 
   mark_wanted :
-      (v place : ℕ) (b a : Condition)
-      → mark also v place (at k s) (read b) (read a) ≡ mark also v place (at k s) (counts also 1 (known at b s)) (counts also 1 (known at a s))
+      (v : ℕ) (inside : Bool) (b a : Condition)
+      → mark wide v inside (at k s) (read b) (read a) ≡ mark wide v inside (at k s) (counts wide 1 (known at b s)) (counts wide 1 (known at a s))
   unfolding mark is_empty
-  mark_wanted v place b a =
+  mark_wanted v inside b a =
       by_equal (at k s) 2 (λ e. rw (wanted_counts e b, wanted_counts e a)) (λ n. rw (ne_eqb (at k s) 2 n))
 
--- mark 1 stands at place 2 only
+-- mark 1 stands at an inner state only
+unknown_apart : (wide : Bool) → unknown wide ≡ 1 → ⊥
+unknown_apart true e = omega arith
+unknown_apart false e = omega arith
+
 inner_joins :
-    (also : ℕ) → (also ≡ 1 → ⊥) → (A E I B G : Bool)
-    → cond {A = ℕ} A 2 (cond E (cond I (cond B 2 (cond G 1 0)) also) 0) ≡ 1
+    (wide A E I B G : Bool)
+    → cond {A = ℕ} A 2 (cond E (cond I (cond B 2 (cond G 1 0)) (unknown wide)) 0) ≡ 1
     → I ≡ true
-inner_joins also apart true E I B G e = let stop : ⊥ = omega arith in absurd stop
-inner_joins also apart false false I B G e = let stop : ⊥ = omega arith in absurd stop
-inner_joins also apart false true false B G e = absurd (apart e)
-inner_joins also apart false true true B G e = refl
+inner_joins wide true E I B G e = let stop : ⊥ = omega arith in absurd stop
+inner_joins wide false false I B G e = let stop : ⊥ = omega arith in absurd stop
+inner_joins wide false true false B G e = absurd (unknown_apart wide e)
+inner_joins wide false true true B G e = refl
 
 after_digit : (a : Bool) (m : ℕ) → (eqb m 2 ≡ true → a ≡ true) → eqb (cond {A = ℕ} a 2 m) 2 ≡ a
 after_digit true m h = refl
@@ -222,8 +227,8 @@ spread_member M q marks after spread s l =
     (or_left (eqb (get_or marks s 0) 2) (eqb (get_or marks s 0) 1 && over M q s (member L)) t))
 
 -- The marks of a column, over a table whose cells are right.
-module _ (m : List ℕ) (t : Table) (ready : Ready m t) (n k : ℕ) (g : Growth) (also : ℕ)
-    (here : (n < (job_of m).nodes) × (k < subformula_count (job_of m)) × InRange k (rule_by g) × (2 ≤ also)) where
+module _ (m : Image) (t : Table) (ready : Ready m t) (n k : ℕ) (g : Growth) (wide : Bool)
+    (here : (n < (job_of m).nodes) × (k < subformula_count (job_of m)) × InRange k (rule_by g)) where
   abbrev J : Job
   J = job_of m
 
@@ -232,7 +237,7 @@ module _ (m : List ℕ) (t : Table) (ready : Ready m t) (n k : ℕ) (g : Growth)
     wanted_cell : (c : Condition) → AsksSmaller k c → IsCell J n s (wanted k c).subformula
     wanted_cell c o = record { node_in = here.0; state_in = l; subformula_in = wanted_in k (subformula_count J) here.1 c o }
 
-    pub cells_in : (by : Marking) → by ≡ marking_of k g also → CellsIn J n s by
+    pub cells_in : (by : Marking) → by ≡ marking_of k g wide → CellsIn J n s by
     unfolding InRange
     cells_in by e =
         rw e
@@ -243,15 +248,15 @@ module _ (m : List ℕ) (t : Table) (ready : Ready m t) (n k : ℕ) (g : Growth)
         })
 
   -- a state's mark by the cells that the conditions want
-  pub mark_read : (s : ℕ) {x : ℕ} {by : Marking} → x ≡ mark_by J t n s by → by ≡ marking_of k g also → x ≡ mark_at J t n k g also s
+  pub mark_read : (s : ℕ) {x : ℕ} {by : Marking} → x ≡ mark_by J t n s by → by ≡ marking_of k g wide → x ≡ mark_at J t n k g wide s
   unfolding cell
   mark_read s e is =
       rw is at e
-      ∙ mark_wanted (cells_of J t n) s k also (λ j. (right_is J t ready.right).small (index J n s j)) here.3 g.value (place_of J n s)
+      ∙ mark_wanted (cells_of J t n) s k wide (λ j. (right_is J t ready.right).small (index J n s j)) g.value (inner J n s)
       g.start g.grow
 
   -- outside the fragment a cell is empty, and a state not inner
-  outside_mark : (s : ℕ) → s < size J → in_fragment J n s ≡ false → mark_at J t n k g also s ≡ also
+  outside_mark : (s : ℕ) → s < size J → in_fragment J n s ≡ false → mark_at J t n k g wide s ≡ unknown wide
   unfolding mark is_empty cell inside inner InRange
   outside_mark s l o =
       let k_in = here.1 in
@@ -259,21 +264,19 @@ module _ (m : List ℕ) (t : Table) (ready : Ready m t) (n k : ℕ) (g : Growth)
       let empty : cell J t n s k ≡ 2 =
       (right_is J t ready.right).outside (index J n s k) (omega (arith, ready.lent.long, index_lt J n s k here.0 l k_in))
       (ap₂ (in_fragment J) (node_of_index J n s k l k_in) (state_of_index J n s k l k_in) ∙ o) in
-      let border : eqb (place_of J n s) 2 ≡ false = place_inner J n s ∙ (let no : inner J n s ≡ false = simp o in no) in
+      let border : inner J n s ≡ false = simp o in
       rw (empty, border, ne_eqb 2 g.value (λ e. omega arith)) refl
 
-  module _ (marks : List ℕ) (done : Marks J n (mark_at J t n k g also) also (fragment_size J n) marks) where
+  module _ (marks : List ℕ) (done : Marks J n (mark_at J t n k g wide) (unknown wide) (fragment_size J n) marks) where
     pub marks_join : Joinable J n marks
     unfolding mark
     marks_join =
-        let high = here.3 in
-        let apart : also ≡ 1 → ⊥ = λ e. omega arith in
-        joinable J ready.lent.image.is_job n (mark_at J t n k g also) also marks done apart
+        joinable J (image_job m) n (mark_at J t n k g wide) (unknown wide) marks done (unknown_apart wide)
         (λ s.
-        inner_joins also apart (eqb (cell J t n s k) g.value) (is_empty (cell J t n s k)) (eqb (place_of J n s) 2)
-        (counts also 1 (known (cells_of J t n) g.start s)) (counts also 1 (known (cells_of J t n) g.grow s)))
+        inner_joins wide (eqb (cell J t n s k) g.value) (is_empty (cell J t n s k)) (inner J n s)
+        (counts wide 1 (known (cells_of J t n) g.start s)) (counts wide 1 (known (cells_of J t n) g.grow s)))
 
-    pub marks_set : (after : List ℕ) → Spread J.structure (quantifier g.all) marks after → IsSet J t n k g also after
+    pub marks_set : (after : List ℕ) → Spread J.structure (quantifier g.all) marks after → IsSet J t n k g wide after
     unfolding size grows spread_rule
     marks_set after spread =
         record {
@@ -281,8 +284,8 @@ module _ (m : List ℕ) (t : Table) (ready : Ready m t) (n k : ℕ) (g : Growth)
               λ s l.
               spread_member J.structure (quantifier g.all) marks after spread s l
               ∙ ap (λ X. member X s)
-              (least_same (spread_rule J.structure (quantifier g.all) marks) (grows J t n k g also) (size J)
+              (least_same (spread_rule J.structure (quantifier g.all) marks) (grows J t n k g wide) (size J)
               (λ X u h.
               ap (λ x. eqb x 2 || (eqb x 1 && over J.structure (quantifier g.all) u X))
-              (mark_is J ready.lent.image.is_job n (mark_at J t n k g also) also marks done outside_mark u h)));
+              (mark_is J (image_job m) n (mark_at J t n k g wide) (unknown wide) marks done outside_mark u h)));
         }

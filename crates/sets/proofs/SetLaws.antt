@@ -29,14 +29,16 @@ use Rattle.cells.specs.Step.{known, column}
 use Rattle.cells.proofs.Columns.{over_same}
 use Rattle.cells.proofs.Fill.{is_empty_lem}
 use Rattle.cells.proofs.Right.{right_is, known_small}
-use Rattle.image.specs.Image.{job_of, fragment_size, fragment_state}
+use Rattle.image.specs.Image.{fragment_size, fragment_state}
+use Rattle.image.specs.Denoted.{job_of}
 use Rattle.image.proofs.Ranks.{by_rank}
-use Rattle.image.proofs.Places.{place_inner}
+use Rattle.image.specs.declared.image.Image.{Image}
+use Rattle.image.proofs.ImageLaws.{image_job}
 use Rattle.table.specs.Lent.{Ready}
 use Rattle.table.specs.Filling.{Leaves, part, of_column}
 use Rattle.table.specs.Column.{cells_of, column_values, step_by}
 use Rattle.table.proofs.Parts.{part_same, leaves_is, leaves_idle}
-use Rattle.sets.specs.declared.sets.Growth.{Growth}
+use Rattle.job.specs.declared.rule.Growth.{Growth}
 use Rattle.sets.specs.Marks.{rule_by, mark, mark_at, grows, IsSet, set_value, set_values, has_empty}
 
 -- A rule that has more members from the start, all of the least set anyway, has the same least set.
@@ -58,8 +60,8 @@ least_more r n mono Z part =
 joins_by :
     (A E I B G O : Bool)
     → (A || (E && I && (B || (G && O))))
-    ≡ (eqb (cond {A = ℕ} A 2 (cond E (cond I (cond (B || false) 2 (cond (G || false) 1 0)) 3) 0)) 2
-    || (eqb (cond {A = ℕ} A 2 (cond E (cond I (cond (B || false) 2 (cond (G || false) 1 0)) 3) 0)) 1 && O))
+    ≡ (eqb (cond {A = ℕ} A 2 (cond E (cond I (cond (B || false) 2 (cond (G || false) 1 0)) 0) 0)) 2
+    || (eqb (cond {A = ℕ} A 2 (cond E (cond I (cond (B || false) 2 (cond (G || false) 1 0)) 0) 0)) 1 && O))
 joins_by true E I B G O = refl
 joins_by false false I B G O = refl
 joins_by false true false B G O = refl
@@ -123,7 +125,7 @@ value_same false true x y z = refl
 value_same false false x y z = refl
 
 -- The column of a set rule.
-module _ (m : List ℕ) (t : Table) (ready : Ready m t) (n k : ℕ) (g : Growth)
+module _ (m : Image) (t : Table) (ready : Ready m t) (n k : ℕ) (g : Growth)
     (here : (n < (job_of m).nodes) × (k < subformula_count (job_of m)) × InRange k (rule_by g)) where
   abbrev J : Job
   J = job_of m
@@ -160,43 +162,39 @@ module _ (m : List ℕ) (t : Table) (ready : Ready m t) (n k : ℕ) (g : Growth)
   known_low : (s : ℕ) (c : Condition) → known (cells_of J t n) c s ≤ 2
   known_low s = known_small (cells_of J t n) s (cell_low s)
 
-  grows_mono : (also : ℕ) → Monotone (grows J t n k g also)
+  grows_mono : (wide : Bool) → Monotone (grows J t n k g wide)
   unfolding grows
-  grows_mono also X Y inside s =
-      let may = eqb (mark_at J t n k g also s) 1 in
-      or_mono (eqb (mark_at J t n k g also s) 2) (may && over_by X s) (may && over_by Y s)
+  grows_mono wide X Y inside s =
+      let may = eqb (mark_at J t n k g wide s) 1 in
+      or_mono (eqb (mark_at J t n k g wide s) 2) (may && over_by X s) (may && over_by Y s)
       (and_mono may (over_by X s) (over_by Y s) (over_mono M (quantifier g.all) s X Y inside))
 
   -- the smallest set
-  joins_same : (X : ℕ → Bool) (s : ℕ) → s < size J → joins J n own R X s ≡ grows J t n k g 3 X s
+  joins_same : (X : ℕ → Bool) (s : ℕ) → s < size J → joins J n own R X s ≡ grows J t n k g false X s
   unfolding joins grows mark
   joins_same X s l =
-      let b = known_low s g.start in
-      let w = known_low s g.grow in
-      rw (place_inner J n s, ne_eqb (starts s) 3 (λ e. omega arith), ne_eqb (may_grow s) 3 (λ e. omega arith))
-      (joins_by (eqb (cell J t n s k) g.value) (is_empty (cell J t n s k)) (inner J n s) (eqb (starts s) 1)
-      (eqb (may_grow s) 1) (over_by X s))
+      joins_by (eqb (cell J t n s k) g.value) (is_empty (cell J t n s k)) (inner J n s) (eqb (starts s) 1)
+      (eqb (may_grow s) 1) (over_by X s)
 
-  smallest_grows : L ≡ least (grows J t n k g 3) (size J)
+  smallest_grows : L ≡ least (grows J t n k g false) (size J)
   unfolding smallest
-  smallest_grows = least_same (joins J n own R) (grows J t n k g 3) (size J) joins_same
+  smallest_grows = least_same (joins J n own R) (grows J t n k g false) (size J) joins_same
 
   -- and what the largest leaves out: the smallest set is left out anyway
-  joins_out : (X : ℕ → Bool) (s : ℕ) → joins J n own R X s ≡ true → grows J t n k g 2 X s ≡ true
+  joins_out : (X : ℕ → Bool) (s : ℕ) → joins J n own R X s ≡ true → grows J t n k g true X s ≡ true
   unfolding joins grows mark
   joins_out X s =
-      rw (place_inner J n s)
       (joins_more (eqb (cell J t n s k) g.value) (is_empty (cell J t n s k)) (inner J n s) (eqb (starts s) 1)
       (eqb (starts s) 2) (eqb (may_grow s) 1) (eqb (may_grow s) 2) (over_by X s))
 
-  smallest_out : (s : ℕ) → member L s ≡ true → member (least (grows J t n k g 2) (size J)) s ≡ true
+  smallest_out : (s : ℕ) → member L s ≡ true → member (least (grows J t n k g true) (size J)) s ≡ true
   unfolding smallest
   smallest_out =
-      let out = grows J t n k g 2 in
+      let out = grows J t n k g true in
       least_ind (joins J n own R) (size J) (λ u. member (least out (size J)) u ≡ true)
       (λ Y inside s l e.
-      least_closed out (size J) (grows_mono 2) s l
-      (grows_mono 2 Y (member (least out (size J))) inside s (joins_out Y s e)))
+      least_closed out (size J) (grows_mono true) s l
+      (grows_mono true Y (member (least out (size J))) inside s (joins_out Y s e)))
 
   others_over : (X : ℕ → Bool) (s : ℕ) → over M (dual (quantifier g.all)) s (others (size J) X) ≡ not (over_by X s)
   unfolding others
@@ -205,19 +203,18 @@ module _ (m : List ℕ) (t : Table) (ready : Ready m t) (n k : ℕ) (g : Growth)
       over_same J (dual q) s (others (size J) X) (λ u. not (X u))
       (λ u r.
       let below : u < size J =
-      ⊎_elim (λ l. l) (λ (e, l, is). let h = ready.lent.image.is_job.ends e l in omega arith) r in
+      ⊎_elim (λ l. l) (λ (e, l, is). let h = (image_job m).ends e l in omega arith) r in
       simp (lt-ltb u (size J) below))
       ∙ sym (not_not (over M (dual q) s (λ u. not (X u))))
       ∙ ap not (sym (over_dual M s q X))
 
   stays_same :
       (X : ℕ → Bool) (s : ℕ) → s < size J
-      → dual_rule (stays J n own R L) (size J) X s ≡ ((is_empty (cell J t n s k) && member L s) || grows J t n k g 2 X s)
+      → dual_rule (stays J n own R L) (size J) X s ≡ ((is_empty (cell J t n s k) && member L s) || grows J t n k g true X s)
   unfolding dual_rule stays grows mark
   stays_same X s l =
       rw (
         others_over X s,
-        place_inner J n s,
         may_be (starts s) (known_low s g.start),
         may_be (may_grow s) (known_low s g.grow),
       )
@@ -229,19 +226,19 @@ module _ (m : List ℕ) (t : Table) (ready : Ready m t) (n k : ℕ) (g : Growth)
       (leaves_by (member L s) (inner J n s) (eqb (starts s) 1 || eqb (starts s) 2)
       (eqb (may_grow s) 1 || eqb (may_grow s) 2) (over_by X s))))
 
-  largest_is : (s : ℕ) → s < size J → member (largest J n own R L) s ≡ not (member (least (grows J t n k g 2) (size J)) s)
+  largest_is : (s : ℕ) → s < size J → member (largest J n own R L) s ≡ not (member (least (grows J t n k g true) (size J)) s)
   unfolding largest others
   largest_is s l =
-      let wide : Rule = λ X u. (is_empty (cell J t n u k) && member L u) || grows J t n k g 2 X u in
+      let wide : Rule = λ X u. (is_empty (cell J t n u k) && member L u) || grows J t n k g true X u in
       ap (λ (X : ℕ → Bool). X s) (greatest_dual (stays J n own R L) (size J))
       ∙ simp (lt-ltb s (size J) l)
       (ap not
       (ap (λ G. member G s) (least_same (dual_rule (stays J n own R L) (size J)) wide (size J) stays_same)
       ∙ sym
-      (least_more (grows J t n k g 2) (size J) (grows_mono 2) (λ u. is_empty (cell J t n u k) && member L u)
+      (least_more (grows J t n k g true) (size J) (grows_mono true) (λ u. is_empty (cell J t n u k) && member L u)
       (λ u h e. smallest_out u (and_right (is_empty (cell J t n u k)) (member L u) e)) s l)))
 
-  module _ (small out : List ℕ) (first : IsSet J t n k g 3 small) (second : IsSet J t n k g 2 out) where
+  module _ (small out : List ℕ) (first : IsSet J t n k g false small) (second : IsSet J t n k g true out) where
     set_value_is : (s : ℕ) → s < size J → set_value g.value (get_or small s 0) (get_or out s 0) ≡ get_or (column J n (cells_of J t n) k (rule_by g)) s 2
     unfolding column by_sets set_value
     set_value_is s l =

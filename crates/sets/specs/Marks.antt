@@ -9,31 +9,35 @@ use Rattle.job.specs.declared.rule.Condition.{Condition}
 use Rattle.job.specs.declared.rule.Condition.TheVariants.{Always, Holds, Fails}
 use Rattle.job.specs.declared.rule.Rule.{Rule}
 use Rattle.job.specs.declared.rule.Rule.TheVariants.{Sets}
-use Rattle.cells.specs.Fragment.{in_fragment}
+use Rattle.cells.specs.Fragment.{in_fragment, inner}
 use Rattle.cells.specs.Table.{Table, cell, is_empty}
 use Rattle.cells.specs.Step.{known}
-use Rattle.image.specs.Image.{place_of, rank, fragment_size, fragment_state}
+use Rattle.image.specs.Image.{rank, fragment_size, fragment_state}
 use Rattle.table.specs.Column.{cells_of}
 use Rattle.table.specs.Filling.{Values}
 use Rattle.table.specs.Lent.{IsCell}
-use Rattle.sets.specs.declared.sets.Growth.{Growth}
+use Rattle.job.specs.declared.rule.Growth.{Growth}
 use Rattle.sets.specs.declared.sets.WantedCell.{WantedCell}
 use Rattle.sets.specs.declared.sets.Marking.{Marking}
 
 -- The rule that grows so.
 abbrev pub rule_by : Growth → Rule
-rule_by g = Sets g.all g.start g.grow g.value
+rule_by g = Sets g
 
--- A state's mark by its place, its own cell and whether it starts and may grow: 2 where it starts in the set, 1 where it may join, else
--- another.
-unfoldable pub mark : ℕ → ℕ → ℕ → ℕ → Bool → Bool → ℕ
-mark also v place own starts grows =
-    cond (eqb own v) 2 (cond (is_empty own) (cond (eqb place 2) (cond starts 2 (cond grows 1 0)) also) 0)
+-- The mark of a state of which nothing is known.
+abbrev pub unknown : Bool → ℕ
+unknown wide = cond wide 2 0
 
--- Where v is wanted, what is `also` counts beside it: with 3 nothing does, which gives the smallest set; with 2 what is not known yet, which
--- gives what the largest leaves out.
-abbrev pub counts : ℕ → ℕ → ℕ → Bool
-counts also v x = eqb x v || eqb x also
+-- A state's mark by whether it is inner, its own cell and whether it starts and may grow: 2 where it starts in the set, 1 where it may join,
+-- else another.
+unfoldable pub mark : Bool → ℕ → Bool → ℕ → Bool → Bool → ℕ
+mark wide v inside own starts grows =
+    cond (eqb own v) 2 (cond (is_empty own) (cond inside (cond starts 2 (cond grows 1 0)) (unknown wide)) 0)
+
+-- Where v is wanted, whether what is not known yet counts as it: where it doesn't, the smallest set grows; where it does, what the largest
+-- leaves out.
+abbrev pub counts : Bool → ℕ → ℕ → Bool
+counts wide v x = eqb x v || (wide && eqb x 2)
 
 -- The cell that a condition of subformula k reads where the cell of k is empty, and its value where the condition is met.
 abbrev pub wanted : ℕ → Condition → WantedCell
@@ -42,9 +46,9 @@ wanted k (Holds a) = record { subformula = a; value = 1 }
 wanted k (Fails a) = record { subformula = a; value = 0 }
 
 -- What the states of column k are marked by, for a set that grows so.
-abbrev pub marking_of : ℕ → Growth → ℕ → Marking
-marking_of k g also =
-    record { own = record { subformula = k; value = g.value }; start = wanted k g.start; grow = wanted k g.grow; also = also }
+abbrev pub marking_of : ℕ → Growth → Bool → Marking
+marking_of k g wide =
+    record { own = record { subformula = k; value = g.value }; start = wanted k g.start; grow = wanted k g.grow; wide = wide }
 
 -- The cells that are read for a state's mark are cells of the table,
 pub record CellsIn (J : Job) (n s : ℕ) (by : Marking) : Type 0 where
@@ -55,16 +59,16 @@ pub record CellsIn (J : Job) (n s : ℕ) (by : Marking) : Type 0 where
 -- and its mark by them.
 abbrev pub mark_by : Job → Table → ℕ → ℕ → Marking → ℕ
 mark_by J t n s by =
-    mark by.also by.own.value (place_of J n s) (cell J t n s by.own.subformula)
-    (counts by.also by.start.value (cell J t n s by.start.subformula))
-    (counts by.also by.grow.value (cell J t n s by.grow.subformula))
+    mark by.wide by.own.value (inner J n s) (cell J t n s by.own.subformula)
+    (counts by.wide by.start.value (cell J t n s by.start.subformula))
+    (counts by.wide by.grow.value (cell J t n s by.grow.subformula))
 
 -- The column of node n and subformula k, over the cells of the table t: the marks by state, and how a set grows by them.
-module _ (J : Job) (t : Table) (n k : ℕ) (g : Growth) (also : ℕ) where
+module _ (J : Job) (t : Table) (n k : ℕ) (g : Growth) (wide : Bool) where
   abbrev pub mark_at : ℕ → ℕ
   mark_at s =
-      mark also g.value (place_of J n s) (cell J t n s k) (counts also 1 (known (cells_of J t n) g.start s))
-      (counts also 1 (known (cells_of J t n) g.grow s))
+      mark wide g.value (inner J n s) (cell J t n s k) (counts wide 1 (known (cells_of J t n) g.start s))
+      (counts wide 1 (known (cells_of J t n) g.grow s))
 
   unfoldable pub grows : fixpoint.Rule
   grows X s = eqb (mark_at s) 2 || (eqb (mark_at s) 1 && over J.structure (quantifier g.all) s X)

@@ -3,42 +3,36 @@
 ghost use Rattle.std.specs.Prelude.{◌≡◌, ◌<◌, ◌≤◌};
 ghost use Rattle.job.specs.Job.{subformula_count};
 ghost use Rattle.job.specs.Rule.{InRange};
-ghost use Rattle.image.specs.Image.{job_of};
+ghost use Rattle.image.specs.Denoted.{job_of};
 ghost use Rattle.table.specs.Lent.{Lent, Ready};
 ghost use Rattle.table.specs.Filling.{Leaves, part, of_column};
 ghost use Rattle.table.specs.Column.{step_by};
-ghost use Rattle.sets.specs.Marks.{rule_by, wanted as wanted_of, marking_of, CellsIn, mark_by, IsSet, has_empty, set_value, set_values};
+ghost use Rattle.spread.specs.Spread.{mark_number, numbers};
+ghost use Rattle.sets.specs.Marks.{rule_by, unknown, wanted as wanted_of, marking_of, CellsIn, mark_by, IsSet, has_empty, set_value, set_values};
 
-use image::image::{Image, fragment_size, fragment_state, place};
-use job::rule::Condition;
+use image::image::Image;
+use image::place::Place;
+use job::rule::{Condition, Growth};
+use spread::mark::Mark;
 use spread::spread::spread;
-use table::cell::{cell, put};
-
-// How the smallest set of a rule grows: over all successors or some, where a state starts in it, where it may grow, and the value that
-// it gives.
-#[derive(Clone, Copy)]
-pub struct Growth {
-    pub all: bool,
-    pub start: Condition,
-    pub grow: Condition,
-    pub value: u8,
-}
+use table::cell::cell;
+use table::column::fill_column;
 
 // A condition as one cell to read: it is met where the cell of `subformula` is `value`.
-#[derive(Clone, Copy)]
+#[derive(Clone, Copy, Debug, PartialEq, Eq)]
 struct WantedCell {
     subformula: usize,
     value: u8,
 }
 
 // What the states of a column are marked by: the own cell with which a state is in the set already, the cells that let it start and grow,
-// and the value that counts beside what these two want.
-#[derive(Clone, Copy)]
+// and whether what is not known yet counts as what these two want.
+#[derive(Clone, Copy, Debug, PartialEq, Eq)]
 struct Marking {
     own: WantedCell,
     start: WantedCell,
     grow: WantedCell,
-    also: u8,
+    wide: bool,
 }
 
 // The cell that a condition of subformula k wants: for what is always met it is the state's own, which is empty where a mark asks.
@@ -62,60 +56,65 @@ fn wanted(k: usize, c: Condition) -> WantedCell
 }
 
 // What the states of column k are marked by, for a set that grows so.
-fn marking_of(k: usize, g: Growth, also: u8) -> Marking
-    ensures { result ≡ marking_of k g also }
+fn marking_of(k: usize, g: Growth, wide: bool) -> Marking
+    ensures { result ≡ marking_of k g wide }
 {
-    let start = g.start;
-    let grow = g.grow;
     Marking {
         own: WantedCell {
             subformula: k,
             value: g.value,
         },
-        start: wanted(k, start),
-        grow: wanted(k, grow),
-        also,
+        start: wanted(k, g.start),
+        grow: wanted(k, g.grow),
+        wide,
     }
 }
 
-// The mark of state s: 2 where it starts in the set, 1 where it may join, else another. The state of a filled cell is done with one look.
-fn mark(m: &Image, table: &[u8], n: usize, s: usize, by: Marking) -> u8
+// The mark of a state of which nothing is known.
+fn unknown(wide: bool) -> Mark
+    ensures { mark_number result ≡ unknown wide }
+{
+    if wide { Mark::In } else { Mark::Out }
+}
+
+// The mark of state s. The state of a filled cell is done with one look.
+fn mark(m: &Image, table: &[u8], n: usize, s: usize, by: Marking) -> Mark
     requires lent { Lent m.now table.now }
     requires cells_in { CellsIn (job_of m.now) n s by }
-    ensures { result ≡ mark_by (job_of m.now) table.now n s by }
+    ensures { mark_number result ≡ mark_by (job_of m.now) table.now n s by }
 {
     let own = cell(m, table, n, s, by.own.subformula);
     if own == by.own.value {
-        return 2;
+        return Mark::In;
     }
     if own != 2 {
-        return 0;
+        return Mark::Out;
     }
-    if place(m, n, s) != 2 {
-        return by.also;
+    if m.place(n, s) != Place::Inner {
+        return unknown(by.wide);
     }
     let b = cell(m, table, n, s, by.start.subformula);
-    if (b == by.start.value) | (b == by.also) {
-        return 2;
+    if (b == by.start.value) | (by.wide & (b == 2)) {
+        return Mark::In;
     }
     let a = cell(m, table, n, s, by.grow.subformula);
-    if (a == by.grow.value) | (a == by.also) {
-        return 1;
+    if (a == by.grow.value) | (by.wide & (a == 2)) {
+        return Mark::May;
     }
-    0
+    Mark::Out
 }
 
-// The set that grows so, as the states with mark 2. With `also` 3 it is the smallest set; with 2, where what is not known yet counts as met,
-// it is all that the largest set leaves out. A state outside the fragment is as one of which nothing is known.
-fn set_of(m: &Image, table: &[u8], n: usize, k: usize, g: Growth, also: u8) -> [u8; 256]
+// The set that grows so, as the states that are in by their marks. It is the smallest set, or where what is not known yet counts as met, so
+// `wide`, all that the largest set leaves out. A state outside the fragment is as one of which nothing is known.
+fn set_of(m: &Image, table: &[u8], n: usize, k: usize, g: Growth, wide: bool) -> [Mark; 256]
     requires ready { Ready m.now table.now }
-    requires n_bound { (n < (job_of m.now).nodes) × (k < subformula_count (job_of m.now)) × InRange k (rule_by g) × (2 ≤ also) }
-    ensures { IsSet (job_of m.now) table.now n k g also result }
+    requires n_bound { (n < (job_of m.now).nodes) × (k < subformula_count (job_of m.now)) × InRange k (rule_by g) }
+    ensures { IsSet (job_of m.now) table.now n k g wide (numbers result) }
 {
-    let by = marking_of(k, g, also);
-    let mut marks = [also; 256];
-    for i in 0..fragment_size(m, n) {
-        let s = fragment_state(m, n, i);
+    let by = marking_of(k, g, wide);
+    let mut marks = [unknown(wide); 256];
+    for i in 0..m.fragment_size(n) {
+        let s = m.fragment_state(n, i);
         marks[s] = mark(m, table, n, s, by);
     }
     spread(m, n, g.all, &mut marks);
@@ -128,8 +127,8 @@ fn has_empty(m: &Image, table: &[u8], n: usize, k: usize) -> bool
     requires n_bound { (n < (job_of m.now).nodes) × (k < subformula_count (job_of m.now)) }
     ensures { result ≡ has_empty (job_of m.now) table.now n k }
 {
-    for i in 0..fragment_size(m, n) {
-        let s = fragment_state(m, n, i);
+    for i in 0..m.fragment_size(n) {
+        let s = m.fragment_state(n, i);
         if cell(m, table, n, s, k) == 2 {
             return true;
         }
@@ -138,14 +137,15 @@ fn has_empty(m: &Image, table: &[u8], n: usize, k: usize) -> bool
 }
 
 // A state's value by its marks in the end.
-fn set_value(v: u8, small: u8, out: u8) -> u8
+#[tactic(auto, unfolding(crate::specs::Marks::set_value))]
+fn set_value(v: u8, small: Mark, out: Mark) -> u8
     requires { v ≤ 1 }
-    ensures { result ≡ set_value v small out }
+    ensures { result ≡ set_value v (mark_number small) (mark_number out) }
 {
-    if small == 2 {
+    if small == Mark::In {
         return v;
     }
-    if out == 2 {
+    if out == Mark::In {
         return 2;
     }
     1 - v
@@ -158,22 +158,16 @@ fn fill_marked(
     n: usize,
     k: usize,
     v: u8,
-    small: &[u8; 256],
-    out: &[u8; 256],
+    small: &[Mark; 256],
+    out: &[Mark; 256],
 ) -> usize
     requires lent { Lent m.now table.old }
     requires n_bound { (n < (job_of m.now).nodes) × (k < subformula_count (job_of m.now)) × (v ≤ 1) }
     ensures { Leaves table.old
-        (part (job_of m.now) (of_column n k) (set_values v small.now out.now) table.old)
+        (part (job_of m.now) (of_column n k) (set_values v (numbers small.now) (numbers out.now)) table.old)
         table.new result }
 {
-    let mut count = 0;
-    for i in 0..fragment_size(m, n) {
-        let s = fragment_state(m, n, i);
-        let value = set_value(v, small[s], out[s]);
-        count += put(m, table, n, s, k, value);
-    }
-    count
+    fill_column(m, table, n, k, |_, s| set_value(v, small[s], out[s]))
 }
 
 // The step of a column by a set rule. A column without an empty cell is not worked.
@@ -185,7 +179,7 @@ pub fn fill_by_sets(m: &Image, table: &mut [u8], n: usize, k: usize, g: Growth) 
     if !has_empty(m, table, n, k) {
         return 0;
     }
-    let small = set_of(m, table, n, k, g, 3);
-    let out = set_of(m, table, n, k, g, 2);
+    let small = set_of(m, table, n, k, g, false);
+    let out = set_of(m, table, n, k, g, true);
     fill_marked(m, table, n, k, g.value, &small, &out)
 }

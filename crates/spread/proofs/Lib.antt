@@ -1,3 +1,4 @@
+pub mod Marks
 pub mod Chain
 pub mod Queue
 pub mod Tally

@@ -1,7 +1,8 @@
 -- A walk along the chain of the node's edges into the state at the queue's head: the edges passed are seen. Assumes nothing.
-use Prim.Native.Nat.{ℕ, suc, ◌+◌, ◌-◌, ◌<◌, ◌≤◌}
+use Prim.Native.Nat.{ℕ, zero, suc, ◌+◌, ◌<◌, ◌≤◌}
 use mathlib.Core.Path.{◌≡◌, refl, sym, ◌∙◌, ap, ap₂}
 use mathlib.Core.Bool.{Bool, true, false, ◌&&◌, ◌||◌}
+use Rattle.std.proofs.Common.{Option, Some, None}
 use mathlib.Core.List.{List}
 use native.Mathlib.Nat.{le_refl}
 use native.Mathlib.Omega.{arith}
@@ -13,7 +14,7 @@ use Rattle.law.proofs.Bool.{split, clash, and_intro, and_left, and_right, and_no
 use Rattle.law.proofs.Bounded.{by_order, by_equal}
 use Rattle.job.specs.Job.{Job, Structure, size, owner}
 use Rattle.job.specs.Written.{IsJob, edge_count}
-use Rattle.image.specs.Image.{edge_from, edge_to, leads, last_into}
+use Rattle.image.specs.Image.{edge_from, edge_to, leads, last_into, edge_told}
 use Rattle.spread.specs.Underway.{enough, outs, among, told_edge, Underway, Spreading}
 use Rattle.spread.proofs.Chain.{last_le, last_leads, last_skips}
 use Rattle.spread.proofs.Queue.{set_marked, among_next, among_same, among_not}
@@ -68,20 +69,18 @@ module _ (J : Job) (n : ℕ) (told : ℕ → Bool) (t : ℕ) where
       (seen_elsewhere e j))
       (λ f. and_no_left (ours j) (told (edge_to M j) || into e j) f ∙ sym (and_no_left (ours j) (told (edge_to M j)) f))
 
-  -- e is one more than an edge of the chain, unless it is 0
+  -- where e is one more than an edge, that edge is of the chain
   abbrev pub OnChain : ℕ → Type 0
-  OnChain e = (e ≡ 0 → ⊥) → (e - 1 < edge_count J) × (owner J (edge_from M (e - 1)) ≡ n) × (edge_to M (e - 1) ≡ t)
+  OnChain e = (j : ℕ) → e ≡ suc j → (j < edge_count J) × (owner J (edge_from M j) ≡ n) × (edge_to M j ≡ t)
 
   chain_on : (k : ℕ) → k ≤ edge_count J → OnChain (last_into J n t k)
   unfolding leads
-  chain_on k l q =
-      let e = last_into J n t k in
-      let below : e ≤ k = last_le J n t k in
-      let next : last_into J n t k ≡ suc (e - 1) = omega arith in
-      let is = last_leads J n t k (e - 1) next in (
+  chain_on k l j next =
+      let below : last_into J n t k ≤ k = last_le J n t k in
+      let is = last_leads J n t k j next in (
         omega arith,
-        eqb-true (owner J (edge_from M (e - 1))) n (and_left (ours (e - 1)) (eqb (edge_to M (e - 1)) t) is),
-        eqb-true (edge_to M (e - 1)) t (and_right (ours (e - 1)) (eqb (edge_to M (e - 1)) t) is),
+        eqb-true (owner J (edge_from M j)) n (and_left (ours j) (eqb (edge_to M j) t) is),
+        eqb-true (edge_to M j) t (and_right (ours j) (eqb (edge_to M j) t) is),
       )
 
   -- all edges into t are seen at the end
@@ -92,6 +91,18 @@ module _ (J : Job) (n : ℕ) (told : ℕ → Bool) (t : ℕ) where
 -- the states of a queue before its head
 abbrev told_by : List ℕ → ℕ → ℕ → Bool
 told_by queue head = among (λ i. get_or queue i 0) head
+
+-- the number that tells the next edge of a walk
+abbrev pub number : Option ℕ → ℕ
+number None = 0
+number (Some e) = suc e
+
+pub number_told : {o : Option ℕ} {x : ℕ} → o ≡ edge_told x → number o ≡ x
+number_told e = ap number e ∙ of_told _
+  where
+    of_told : (x : ℕ) → number (edge_told x) ≡ x
+    of_told zero = refl
+    of_told (suc e) = refl
 
 -- e is one more than the next edge of the walk, 0 at its end
 pub record Walking (J : Job) (n : ℕ) (all : Bool) (before queue₀ : List ℕ) (head tail₀ : ℕ) (marks counts queue : List ℕ) (tail e : ℕ)
@@ -157,21 +168,18 @@ module _ {J : Job} {n : ℕ} {all : Bool} {before marks₀ counts₀ queue₀ : 
       }
 
   -- an edge of the walk, its source, and the edge behind it
-  module _ {marks counts queue : List ℕ} {tail e : ℕ} (at : WalkingAt marks counts queue tail e) (on : e ≡ 0 → ⊥) where
-    abbrev j : ℕ
-    j = e - 1
-
+  module _ {marks counts queue : List ℕ} {tail j : ℕ} (at : WalkingAt marks counts queue tail (suc j)) where
     pub j_in : j < edge_count J
-    j_in = (at.on_chain on).0
+    j_in = (at.on_chain j refl).0
 
     j_ours : owner J (edge_from J.structure j) ≡ n
-    j_ours = (at.on_chain on).1
+    j_ours = (at.on_chain j refl).1
 
     j_target : edge_to J.structure j ≡ t
-    j_target = (at.on_chain on).2
+    j_target = (at.on_chain j refl).2
 
     abbrev seen : ℕ → Bool
-    seen = seen_from J n told t e
+    seen = seen_from J n told t (suc j)
 
     abbrev seen' : ℕ → Bool
     seen' = seen_from J n told t (last_into J n t j)
@@ -181,19 +189,19 @@ module _ {J : Job} {n : ℕ} {all : Bool} {before marks₀ counts₀ queue₀ : 
 
     new : seen j ≡ false
     new =
-        seen_before J n told t e j (omega arith)
+        seen_before J n told t (suc j) j (omega arith)
         ∙ and_no_right (eqb (owner J (edge_from J.structure j)) n) (told (edge_to J.structure j)) (ap told j_target ∙ head_new)
 
     others : (i : ℕ) → i < edge_count J → (i ≡ j → ⊥) → seen' i ≡ seen i
     others i g q =
         by_order i j
-        (λ less. chain_skips J n told t j i less ∙ sym (seen_before J n told t e i (omega arith)))
+        (λ less. chain_skips J n told t j i less ∙ sym (seen_before J n told t (suc j) i (omega arith)))
         (λ more.
         by_equal (edge_to J.structure i) t
         (λ p.
         let below : last_into J n t j ≤ i = omega (arith, last_le J n t j) in
-        seen_from_lem J n told t (last_into J n t j) i p below ∙ sym (seen_from_lem J n told t e i p (omega arith)))
-        (λ p. seen_elsewhere J n told t (last_into J n t j) i p ∙ sym (seen_elsewhere J n told t e i p)))
+        seen_from_lem J n told t (last_into J n t j) i p below ∙ sym (seen_from_lem J n told t (suc j) i p (omega arith)))
+        (λ p. seen_elsewhere J n told t (last_into J n t j) i p ∙ sym (seen_elsewhere J n told t (suc j) i p)))
 
     one_more : OneMore J n all before seen seen' marks counts queue tail j
     one_more =

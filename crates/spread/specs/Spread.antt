@@ -1,8 +1,19 @@
 -- How a set of states spreads against the edges of one node: what every set rule of a cell comes to. Assumes nothing.
-use Rattle.std.specs.Prelude.{ℕ, ◌≡◌, true, cond, ◌&&◌, ◌||◌, List, length, get_or, eqb}
+use Rattle.std.specs.Prelude.{ℕ, ◌≡◌, true, cond, ◌&&◌, ◌||◌, List, map, length, get_or, eqb}
 use Rattle.law.specs.Fixpoint.{Rule, member, least}
 use Rattle.job.specs.Job.{Job, Structure, Quantifier, over}
 use Rattle.cells.specs.Fragment.{inner}
+use Rattle.spread.specs.declared.mark.Mark.{Mark}
+use Rattle.spread.specs.declared.mark.Mark.TheVariants.{Out, May, In}
+
+-- A mark's number, and the numbers of marks.
+abbrev pub mark_number : Mark → ℕ
+mark_number Out = 0
+mark_number May = 1
+mark_number In = 2
+
+abbrev pub numbers : List Mark → List ℕ
+numbers marks = map mark_number marks
 
 -- A mark is 2 for a state in the set, 1 for one that may join, anything else for one that stays out. A state that may join
 -- does where that many of its successors are in the set.

@@ -2,41 +2,38 @@
 ghost use Rattle.std.specs.Prelude.{◌≡◌, ◌&&◌, List, ℕ, ◌+◌, ◌<◌, eqb, length};
 ghost use Rattle.job.specs.Job.{size};
 ghost use Rattle.job.specs.Rule.{quantifier};
-ghost use Rattle.image.specs.Image.{IsImage, job_of};
-ghost use Rattle.spread.specs.Spread.{Joinable, Spread};
+ghost use Rattle.image.specs.Denoted.{job_of};
+ghost use Rattle.spread.specs.Spread.{mark_number, numbers, Joinable, Spread};
 ghost use Rattle.spread.specs.Underway.{enough, outs, in_set, Lists, Spreading};
 
-use image::image::{
-    Image, first_edge, fragment_size, fragment_state, last_into, next_into, source,
-};
+use crate::mark::Mark;
+use image::image::Image;
 
 // Whether state s, with that mark, joins: all its edges are told, or some, of the number that is given.
-fn joins(m: &Image, all: bool, s: usize, mark: u8, told: u16) -> bool
-    requires image { IsImage m.now }
-    requires s_bound { s < size (job_of m.now) }
-    ensures { result ≡ (eqb mark 1 && enough all (outs (job_of m.now).structure s) told) }
+fn joins(m: &Image, all: bool, s: usize, mark: Mark, told: u16) -> bool
+    requires { s < size (job_of m.now) }
+    ensures { result ≡ (eqb (mark_number mark) 1 && enough all (outs (job_of m.now).structure s) told) }
 {
-    if mark != 1 {
+    if mark != Mark::May {
         return false;
     }
     if all {
-        return told as usize == first_edge(m, s + 1) - first_edge(m, s);
+        return told as usize == m.first_edge(s + 1) - m.first_edge(s);
     }
     0 < told
 }
 
-// Queues the states of node n's fragment that are in the set before any is told: those with mark 2, since every state that may join
+// Queues the states of node n's fragment that are in the set before any is told, since every state that may join
 // has an edge out to wait for. Returns how many these are.
-fn start(m: &Image, n: usize, marks: &[u8; 256], queue: &mut [u8; 256]) -> usize
-    requires image { IsImage m.now }
+fn start(m: &Image, n: usize, marks: &[Mark; 256], queue: &mut [u8; 256]) -> usize
     requires n_bound { n < (job_of m.now).nodes }
     requires queue_len { length queue.old ≡ 256 }
-    ensures { Lists (in_set (job_of m.now) n marks.now) (size (job_of m.now)) queue.new result }
+    ensures { Lists (in_set (job_of m.now) n (numbers marks.now)) (size (job_of m.now)) queue.new result }
 {
     let mut tail = 0;
-    for i in 0..fragment_size(m, n) {
-        let s = fragment_state(m, n, i);
-        if marks[s] == 2 {
+    for i in 0..m.fragment_size(n) {
+        let s = m.fragment_state(n, i);
+        if marks[s] == Mark::In {
             queue[tail] = s as u8;
             tail += 1;
         }
@@ -52,40 +49,38 @@ fn tell(
     all: bool,
     head: usize,
     old: usize,
-    marks: &mut [u8; 256],
+    marks: &mut [Mark; 256],
     counts: &mut [u16; 256],
     queue: &mut [u8; 256],
 ) -> usize
-    requires image { IsImage m.now }
     requires n_bound { (n < (job_of m.now).nodes) × (head < old) }
-    requires by_index { (before : List ℕ) × Spreading (job_of m.now) n all before marks.old counts.old queue.old old head }
+    requires by_index { (before : List ℕ) × Spreading (job_of m.now) n all before (numbers marks.old) counts.old queue.old old head }
     ensures { (before : List ℕ)
-        → Spreading (job_of m.now) n all before marks.old counts.old queue.old old head
-        → Spreading (job_of m.now) n all before marks.new counts.new queue.new result (head + 1) }
+        → Spreading (job_of m.now) n all before (numbers marks.old) counts.old queue.old old head
+        → Spreading (job_of m.now) n all before (numbers marks.new) counts.new queue.new result (head + 1) }
 {
     let mut tail = old;
-    let mut e = last_into(m, n, queue[head] as usize);
-    while e != 0 {
-        let s = source(m, e - 1);
+    let mut next = m.last_into(n, queue[head] as usize);
+    while let Some(e) = next {
+        let s = m.source(e);
         let told = counts[s] + 1;
         counts[s] = told;
         if joins(m, all, s, marks[s], told) {
-            marks[s] = 2;
+            marks[s] = Mark::In;
             queue[tail] = s as u8;
             tail += 1;
         }
-        e = next_into(m, e - 1);
+        next = m.next_into(e);
     }
     tail
 }
 
-// Gives mark 2 to the states of the least set in which each state of mark 2 is, and each of mark 1 of which all successors
+// Puts in the states of the least set in which each state that is in is, and each that may join of which all successors
 // are, or some. Each state of node n's fragment enters the queue at most once, so each of its edges is walked at most once.
-pub fn spread(m: &Image, n: usize, all: bool, marks: &mut [u8; 256])
-    requires image { IsImage m.now }
+pub fn spread(m: &Image, n: usize, all: bool, marks: &mut [Mark; 256])
     requires n_bound { n < (job_of m.now).nodes }
-    requires joinable { Joinable (job_of m.now) n marks.old }
-    ensures { Spread (job_of m.now).structure (quantifier all) marks.old marks.new }
+    requires joinable { Joinable (job_of m.now) n (numbers marks.old) }
+    ensures { Spread (job_of m.now).structure (quantifier all) (numbers marks.old) (numbers marks.new) }
 {
     let mut queue = [0u8; 256];
     let mut counts = [0u16; 256];

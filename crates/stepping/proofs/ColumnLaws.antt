@@ -1,12 +1,9 @@
 -- The step of a column is its step by the subformula's rule. Assumes nothing.
 use Prim.Native.Nat.{ℕ}
 use mathlib.Core.Path.{◌≡◌, subst}
-use mathlib.Core.Bool.{Bool}
 use Rattle.job.specs.Job.{Job}
-use Rattle.job.specs.Rule.{rule_at, IsSets}
-use Rattle.job.specs.declared.rule.Condition.{Condition}
+use Rattle.job.specs.Rule.{rule_at}
 use Rattle.job.specs.declared.rule.Rule.{Rule}
-use Rattle.job.specs.declared.rule.Rule.TheVariants.{Sets}
 use Rattle.cells.specs.Table.{Table}
 use Rattle.cells.specs.Step.{step_column}
 use Rattle.table.specs.Filling.{Leaves, part, of_column}
@@ -24,11 +21,3 @@ pub stepped :
     → Leaves t (step_column J n k t) after told
 unfolding part of_column step_column
 stepped J n k r t after told e l = stepped_by J n k r (rule_at J k) t after told e l
-
--- the arms of the rules without sets
-pub not_sets :
-    (r : Rule)
-    → ((all : Bool) (start grow : Condition) (value : ℕ) → r ≡ Sets all start grow value → ⊥)
-    → IsSets r
-    → ⊥
-not_sets r none i = none i.all i.start i.grow i.value i.is

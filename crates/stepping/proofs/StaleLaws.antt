@@ -1,38 +1,40 @@
 -- One column of a node: which marks bear on it, and what becomes of it. Assumes nothing.
 use Prim.Native.Nat.{ℕ, ◌<◌}
-use mathlib.Core.Path.{◌≡◌, refl, sym, ◌∙◌, ap, ap₂}
+use mathlib.Core.Path.{◌≡◌, refl, sym, ◌∙◌, ap₂}
 use mathlib.Core.Bool.{Bool, true, false, ◌||◌}
 use mathlib.Core.List.{List, [], ◌∷◌, ◌++◌}
 use native.Mathlib.Omega.{arith}
-use lib.ListN.{set}
 use Rattle.law.specs.Lists.{some}
 use Rattle.law.proofs.Bool.{or_left, or_false}
 use Rattle.law.proofs.Lists.{some_append}
 use Rattle.job.specs.Job.{Job, subformula_count}
-use Rattle.job.specs.Rule.{rule_at, asks, operands}
-use Rattle.job.specs.declared.rule.Condition.{Condition}
+use Rattle.job.specs.Rule.{rule_at, operands}
 use Rattle.job.specs.declared.rule.Rule.{Rule}
 use Rattle.cells.specs.Table.{Table}
 use Rattle.cells.specs.Step.{step_column}
-use Rattle.cells.specs.Rest.{column_byte, is_stale, reads, bears}
+use Rattle.cells.specs.Rest.{column_flag, is_stale, reads, bears, FlagIs}
 use Rattle.cells.proofs.Grown.{step_column_grown}
 use Rattle.cells.proofs.Counts.{filled_same, filled_none}
 use Rattle.cells.proofs.Tracked.{mark_none, mark_set}
-use Rattle.image.specs.Image.{job_of}
+use Rattle.image.specs.Denoted.{job_of}
+use Rattle.image.specs.declared.image.Image.{Image}
+use Rattle.image.proofs.ImageLaws.{image_job}
+use Rattle.pending.specs.declared.Pending.{Pending}
 use Rattle.table.specs.Filling.{Leaves}
 use Rattle.stepping.specs.Stale.{Resting, ColumnWorked}
 
 -- The columns that a condition asks for, by its case.
-module _ (stale : List ℕ) (n : ℕ) where
-  pub asks_case : {r : Bool} {c d : Condition} → c ≡ d → r ≡ some (is_stale stale n) (asks d) → r ≡ some (is_stale stale n) (asks c)
-  asks_case e v = v ∙ ap (λ (f : Condition). some (is_stale stale n) (asks f)) (sym e)
+module _ (stale : List Bool) (n : ℕ) where
+  pub asks_none : false ≡ some (is_stale stale n) []
+  unfolding some
+  asks_none = refl
 
   pub asks_one : (a : ℕ) {r : Bool} → r ≡ is_stale stale n a → r ≡ some (is_stale stale n) (a ∷ [])
   unfolding some
   asks_one a one = one ∙ sym (or_false (is_stale stale n a))
 
 -- By the column's own mark, and by those of its operands.
-module _ (stale : List ℕ) (n k : ℕ) (rule : Rule) where
+module _ (stale : List Bool) (n k : ℕ) (rule : Rule) where
   pub bears_own : is_stale stale n k ≡ true → true ≡ bears stale n k rule
   unfolding bears reads some
   bears_own e = sym (or_left (is_stale stale n k) (some (is_stale stale n) (operands rule)) e)
@@ -59,44 +61,50 @@ module _ (stale : List ℕ) (n k : ℕ) (rule : Rule) where
       ap₂ ◌||◌ left right ∙ sym (some_append (is_stale stale n) l m) ∙ bears_by (l ++ m) e is
 
 -- One column.
-module _ {m : List ℕ} {t : Table} {n : ℕ} {stale news : List ℕ} (w : Resting m t n stale news) (k : ℕ) (l : k < subformula_count (job_of m)) where
+module _ {m : Image} {t : Table} {n : ℕ} {p : Pending} (w : Resting m t n p) (k : ℕ) (l : k < subformula_count (job_of m)) where
   abbrev J : Job
   J = job_of m
 
   pub column_numbers : (n < 8) × (k < 32)
   column_numbers =
       let node = w.node_in in
-      let nodes = w.ready.lent.image.is_job.nodes.below in
-      let subformulas = w.ready.lent.image.is_job.subformulas.below in
+      let nodes = (image_job m).nodes.below in
+      let subformulas = (image_job m).subformulas.below in
       (omega arith, omega arith)
 
   -- left out
-  pub column_left : (rule : Rule) → rule ≡ rule_at J k → bears stale n k rule ≡ false → ColumnWorked J n k t stale news t stale news 0
+  pub column_left : (rule : Rule) → rule ≡ rule_at J k → bears p.stale n k rule ≡ false → ColumnWorked J n k t p t p 0
   column_left rule is none =
       let idle = w.rested k l (rw is at none) in
       record {
         leaves = record { table_is = sym idle; told_is = sym (rw idle (filled_same t)) };
-        stale_marked = mark_none t (column_byte n k) stale t refl;
-        news_marked = mark_none t k news t refl;
+        stale_marked = mark_none t (column_flag n k) p.stale t refl;
+        news_marked = mark_none t k p.news t refl;
       }
 
   module _ (after : Table) (r : ℕ) (leaves : Leaves t (step_column J n k t) after r) where
     -- worked, and nothing is filled
-    pub column_idle : r ≡ 0 → ColumnWorked J n k t stale news after stale news 0
+    pub column_idle : r ≡ 0 → ColumnWorked J n k t p after p 0
     column_idle none =
         let idle = filled_none J t (step_column J n k t) (step_column_grown J n k t) (sym leaves.told_is ∙ none) in
         let same = leaves.table_is ∙ idle in
         record {
           leaves = record { table_is = leaves.table_is; told_is = sym none ∙ leaves.told_is };
-          stale_marked = mark_none t (column_byte n k) stale after same;
-          news_marked = mark_none t k news after same;
+          stale_marked = mark_none t (column_flag n k) p.stale after same;
+          news_marked = mark_none t k p.news after same;
         }
 
-    pub column_marked : ColumnWorked J n k t stale news after (set stale (column_byte n k) 1) (set news k 1) r
-    column_marked =
-        let (node, subformula) = column_numbers in
+    -- marked, and then its news told
+    pub column_marked :
+        {p' p'' : Pending}
+        → FlagIs (column_flag n k) true p.stale p'.stale
+        → p'.news ≡ p.news
+        → p''.stale ≡ p'.stale
+        → FlagIs k true p'.news p''.news
+        → ColumnWorked J n k t p after p'' r
+    column_marked {p'} {p''} marked news_same stale_same told =
         record {
           leaves = leaves;
-          stale_marked = mark_set t (column_byte n k) stale after (omega (arith, w.stale_long));
-          news_marked = mark_set t k news after (omega (arith, w.news_long));
+          stale_marked = rw stale_same (mark_set t (column_flag n k) p.stale after p'.stale marked);
+          news_marked = mark_set t k p.news after p''.news (rw news_same at told);
         }

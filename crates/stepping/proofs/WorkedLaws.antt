@@ -1,8 +1,7 @@
 -- A node stepped column by column, idle columns left out: the marks stay right on the way. Assumes nothing.
 use Prim.Native.Nat.{ℕ, ◌+◌, ◌*◌, ◌<◌, ◌≤◌}
 use mathlib.Core.Path.{◌≡◌, refl, sym, ◌∙◌, ap}
-use mathlib.Core.Bool.{not, ◌&&◌}
-use mathlib.Core.List.{List}
+use mathlib.Core.Bool.{false, not, ◌&&◌}
 use native.Mathlib.Nat.{mul-le-mul}
 use native.Mathlib.Numerals.{add-one}
 use native.Mathlib.Omega.{arith}
@@ -12,7 +11,7 @@ use Rattle.job.specs.Job.{Job, size, subformula_count}
 use Rattle.job.specs.Written.{IsJob}
 use Rattle.cells.specs.Table.{Table, table_length, is_empty, cell, filled}
 use Rattle.cells.specs.Step.{step_column, step_up_to, step_table}
-use Rattle.cells.specs.Rest.{column_byte, Rested, Tracked, SameColumn, TellsChanges, BytesAre}
+use Rattle.cells.specs.Rest.{column_flag, Rested, Tracked, SameColumn, TellsChanges, FlagsAre}
 use Rattle.cells.proofs.Grown.{step_column_grown, step_up_to_grown}
 use Rattle.cells.proofs.Counts.{filled_same, filled_sum}
 use Rattle.cells.proofs.Local.{step_column_other}
@@ -20,7 +19,10 @@ use Rattle.cells.proofs.Rest.{rested_kept}
 use Rattle.cells.proofs.Tracked.{marks_none, marks_after, mark_marks, step_tracked}
 use Rattle.cells.proofs.Right.{right_is, is_right}
 use Rattle.cells.proofs.Formed.{Formed, step_column_formed}
-use Rattle.image.specs.Image.{job_of}
+use Rattle.image.specs.Denoted.{job_of}
+use Rattle.image.specs.declared.image.Image.{Image}
+use Rattle.image.proofs.ImageLaws.{image_job}
+use Rattle.pending.specs.declared.Pending.{Pending}
 use Rattle.table.specs.Filling.{Leaves}
 use Rattle.stepping.specs.Stale.{Resting, ColumnWorked, Worked}
 
@@ -56,77 +58,69 @@ module _ (J : Job) (n : ℕ) (t : Table) where
       })
 
 -- The columns below k are stepped.
-pub record WorkedUpTo (J : Job) (n k : ℕ) (t : Table) (stale news : List ℕ) (after : Table) (stale' news' : List ℕ) (count : ℕ)
+pub record WorkedUpTo (J : Job) (n k : ℕ) (t : Table) (p : Pending) (after : Table) (p' : Pending) (count : ℕ)
     : Type 0 where
   pub leaves : Leaves t (step_up_to J n k t) after count
   pub formed : Formed J after
-  pub stale_long : length stale' ≡ length stale
-  pub rows_kept : (m j : ℕ) → j < 32 → (m ≡ n → ⊥) → get_or stale' (column_byte m j) 0 ≡ get_or stale (column_byte m j) 0
-  pub rested : Rested J n stale' after
-  pub news_long : length news' ≡ length news
-  pub news_marked : TellsChanges J n (λ j. j) news t news' after
+  pub rows_kept : (m j : ℕ) → j < 32 → (m ≡ n → ⊥) → get_or p'.stale (column_flag m j) false ≡ get_or p.stale (column_flag m j) false
+  pub rested : Rested J n p'.stale after
+  pub news_marked : TellsChanges J n (λ j. j) p.news t p'.news after
 
-module _ {m : List ℕ} {t : Table} {n : ℕ} {stale news : List ℕ} (w : Resting m t n stale news) where
+module _ {m : Image} {t : Table} {n : ℕ} {p : Pending} (w : Resting m t n p) where
   abbrev J : Job
   J = job_of m
 
   job : IsJob J
-  job = w.ready.lent.image.is_job
+  job = image_job m
 
   pub node_small : n < 8
   node_small = let node = w.node_in in let nodes = job.nodes.below in omega arith
 
-  pub worked_none : WorkedUpTo J n 0 t stale news t stale news 0
+  pub worked_none : WorkedUpTo J n 0 t p t p 0
   worked_none =
       record {
         leaves = leaves_none J n t;
         formed = record { long = w.ready.lent.long; right = right_is J t w.ready.right };
-        stale_long = refl;
         rows_kept = λ m j l apart. refl;
         rested = w.rested;
-        news_long = refl;
-        news_marked = marks_none J n (λ j. j) t news;
+        news_marked = marks_none J n (λ j. j) t p.news;
       }
 
-  module _ {k : ℕ} {u : Table} {stale' news' : List ℕ} {count : ℕ} (so_far : WorkedUpTo J n k t stale news u stale' news' count) where
-    pub column_next : Resting m u n stale' news'
+  module _ {k : ℕ} {u : Table} {p' : Pending} {count : ℕ} (so_far : WorkedUpTo J n k t p u p' count) where
+    pub column_next : Resting m u n p'
     column_next =
         record {
           ready =
               record {
-                lent = record { image = w.ready.lent.image; long = so_far.formed.long };
+                lent = record { long = so_far.formed.long };
                 right = is_right J u so_far.formed.right;
               };
           node_in = w.node_in;
-          stale_long = so_far.stale_long ∙ w.stale_long;
-          news_long = so_far.news_long ∙ w.news_long;
           rested = so_far.rested;
         }
 
     -- column k is worked
-    module _ (l : k < subformula_count J) {v : Table} {stale'' news'' : List ℕ} {r : ℕ} (turn : ColumnWorked J n k u stale' news' v stale'' news'' r) where
+    module _ (l : k < subformula_count J) {v : Table} {p'' : Pending} {r : ℕ} (turn : ColumnWorked J n k u p' v p'' r) where
       others_same : (j : ℕ) → j < subformula_count J → (j ≡ k → ⊥) → SameColumn J n j u v
       others_same j h apart s b =
           ap (λ x. cell J x n s j) turn.leaves.table_is ∙ step_column_other J n k u n s j h apart
 
-      pub worked_more : WorkedUpTo J n (k + 1) t stale news v stale'' news'' (count + r)
+      pub worked_more : WorkedUpTo J n (k + 1) t p v p'' (count + r)
       worked_more =
           let few = job.subformulas.below in
           record {
             leaves = leaves_more J n t k l so_far.leaves turn.leaves;
             formed = rw turn.leaves.table_is (step_column_formed J u so_far.formed n k);
-            stale_long = turn.stale_marked.long ∙ so_far.stale_long;
             rows_kept =
                 λ m j h apart.
-                turn.stale_marked.rest (column_byte m j) (λ e. apart (omega arith)) ∙ so_far.rows_kept m j h apart;
+                turn.stale_marked.rest (column_flag m j) (λ e. apart (omega arith)) ∙ so_far.rows_kept m j h apart;
             rested =
-                rested_kept J job n u v stale' stale'' so_far.rested
-                (mark_marks J n (column_byte n) u v (column_byte n k) stale' stale'' turn.stale_marked
-                (λ j h apart. others_same j h (λ e. apart (ap (column_byte n) e))));
-            news_long = turn.news_marked.long ∙ so_far.news_long;
+                rested_kept J job n u v p'.stale p''.stale so_far.rested
+                (mark_marks J n (column_flag n) u v (column_flag n k) p'.stale p''.stale turn.stale_marked
+                (λ j h apart. others_same j h (λ e. apart (ap (column_flag n) e))));
             news_marked =
-                marks_after J n (λ j. j) t u v news news' news'' so_far.news_marked
-                (mark_marks J n (λ j. j) u v k news' news'' turn.news_marked others_same);
+                marks_after J n (λ j. j) t u v p.news p'.news p''.news so_far.news_marked
+                (mark_marks J n (λ j. j) u v k p'.news p''.news turn.news_marked others_same);
           }
 
       pub worked_few : (count ≤ 65536) × (r ≤ 65536)
@@ -135,25 +129,23 @@ module _ {m : List ℕ} {t : Table} {n : ℕ} {stale news : List ℕ} (w : Resti
         omega (arith, turn.leaves.told_is, filled_few J job u so_far.formed.long (step_column J n k u)),
       )
 
-    pub worked_over : k ≡ subformula_count J → (stale'' : List ℕ) → BytesAre (column_byte n) 0 32 stale' stale'' → Worked J n t stale news u stale'' news' count
+    pub worked_over :
+        k ≡ subformula_count J → {p'' : Pending} → FlagsAre (column_flag n) false 32 p'.stale p''.stale → p''.news ≡ p'.news → Worked J n t p u p'' count
     unfolding step_table
-    worked_over e stale'' clear =
+    worked_over e clear same_news =
         record {
           leaves = rw e at so_far.leaves;
-          stale_long = clear.long ∙ so_far.stale_long;
           row_clear = clear.written;
           rows_kept =
-              λ m j l apart. clear.rest (column_byte m j) (λ i h same. apart (omega arith)) ∙ so_far.rows_kept m j l apart;
-          news_long = so_far.news_long;
-          news_marked = so_far.news_marked;
+              λ m j l apart. clear.rest (column_flag m j) (λ i h same. apart (omega arith)) ∙ so_far.rows_kept m j l apart;
+          news_marked = rw same_news so_far.news_marked;
         }
 
 -- Right marks stay right.
 pub worked_tracked :
-    (J : Job) → IsJob J → (n : ℕ) (t : Table) (stale news : List ℕ) (u : Table) (stale' news' : List ℕ) (count : ℕ)
-    → Worked J n t stale news u stale' news' count → Tracked J stale news t → Tracked J stale' news' u
-worked_tracked J job n t stale news u stale' news' count w tracked =
+    (J : Job) → IsJob J → (n : ℕ) (t : Table) (p : Pending) (u : Table) (p' : Pending) (count : ℕ)
+    → Worked J n t p u p' count → Tracked J p.stale p.news t → Tracked J p'.stale p'.news u
+worked_tracked J job n t p u p' count w tracked =
     let is = w.leaves.table_is in
     rw is
-    (step_tracked J job t stale news tracked n stale' news' w.stale_long w.rows_kept w.news_long
-    (rw is at w.news_marked))
+    (step_tracked J job t p.stale p.news tracked n p'.stale p'.news w.rows_kept (rw is at w.news_marked))

@@ -2,14 +2,14 @@
 ghost use Rattle.std.specs.Prelude.{◌<◌};
 ghost use Rattle.job.specs.Job.{subformula_count};
 ghost use Rattle.job.specs.Rule.{InRange};
-ghost use Rattle.image.specs.Image.{job_of};
+ghost use Rattle.image.specs.Denoted.{job_of};
 ghost use Rattle.table.specs.Lent.{Ready};
 ghost use Rattle.table.specs.Filling.{Leaves};
 ghost use Rattle.table.specs.Column.{step_by};
 
 use image::image::Image;
 use job::rule::Rule;
-use sets::sets::{Growth, fill_by_sets};
+use sets::sets::fill_by_sets;
 use values::column::fill_values;
 
 // The empty cells of node n and subformula k take their values by a rule. Returns how many take one.
@@ -18,19 +18,8 @@ pub fn step_column(m: &Image, table: &mut [u8], n: usize, k: usize, rule: Rule) 
     requires n_bound { (n < (job_of m.now).nodes) × (k < subformula_count (job_of m.now)) × InRange k rule }
     ensures { Leaves table.old (step_by (job_of m.now) n k rule table.old) table.new result }
 {
-    let Rule::Sets(all, start, grow, value) = rule else {
+    let Rule::Sets(growth) = rule else {
         return fill_values(m, table, n, k, rule);
     };
-    fill_by_sets(
-        m,
-        table,
-        n,
-        k,
-        Growth {
-            all,
-            start,
-            grow,
-            value,
-        },
-    )
+    fill_by_sets(m, table, n, k, growth)
 }

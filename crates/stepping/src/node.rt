@@ -1,12 +1,13 @@
 // The step of one node on its own.
 ghost use Rattle.std.specs.Prelude.{◌<◌};
 ghost use Rattle.cells.specs.Step.{step_table};
-ghost use Rattle.image.specs.Image.{job_of};
+ghost use Rattle.image.specs.Denoted.{job_of};
 ghost use Rattle.table.specs.Lent.{Ready};
 ghost use Rattle.table.specs.Filling.{Leaves};
 
 use crate::stale::step_stale;
 use image::image::Image;
+use pending::Pending;
 
 // The step of a node where nothing is known of any column yet: every column is stale. Returns how many cells it fills.
 pub fn step_node(m: &Image, table: &mut [u8], node: usize) -> usize
@@ -14,7 +15,5 @@ pub fn step_node(m: &Image, table: &mut [u8], node: usize) -> usize
     requires node_bound { node < (job_of m.now).nodes }
     ensures { Leaves table.old (step_table (job_of m.now) node table.old) table.new result }
 {
-    let mut stale = [1u8; 256];
-    let mut news = [1u8; 32];
-    step_stale(m, table, &mut stale, &mut news, node)
+    step_stale(m, table, &mut Pending::all(), node)
 }

@@ -152,6 +152,23 @@ module _ (J : Job) (t : Table) (long : length t ≡ table_length J) (new : Value
         leaves_others J t (up_to J n k i) new u c so m s j b d
         (contrapose (up_to J n k i m s j) (of_column n k m s j) (up_to_column J n k i m s j) (column_apart n k m s j apart))
 
+    -- and so has the state of rank i
+    pub column_own :
+        IsJob J
+        → (i : ℕ)
+        → i < fragment_size J n
+        → Leaves t (part J (up_to J n k i) new t) u c
+        → (s : ℕ)
+        → s ≡ fragment_state J n i
+        → s < size J
+        → k < subformula_count J
+        → cell J u n s k ≡ cell J t n s k
+    unfolding up_to
+    column_own job i l so s is b d =
+        let at : rank J n s ≡ i = ap (rank J n) is ∙ rank_state J job n i l in
+        leaves_others J t (up_to J n k i) new u c so n s k b d
+        (and_no_right (eqb n n && eqb k k) (ltb (rank J n s) i) (le-ltb (rank J n s) i (omega arith)))
+
 pub nodes_more : (k i m u j : ℕ) → up_to_node k (i + 1) m u j ≡ (up_to_node k i m u j || of_column i k m u j)
 unfolding up_to_node of_column
 nodes_more k i m u j = rw (ltb_more m i) (cases (ltb m i) (eqb m i) (eqb j k))

@@ -2,7 +2,6 @@
 use Prim.Native.Nat.{ℕ, ◌+◌, ◌*◌, ◌<◌, ◌≤◌}
 use mathlib.Core.Path.{◌≡◌, refl, sym, ◌∙◌, ap, ap₂}
 use mathlib.Core.Bool.{Bool, true, false, cond, not, ◌&&◌, ◌||◌}
-use mathlib.Core.List.{List}
 use native.Mathlib.Nat.{mul-le-mul}
 use native.Mathlib.Omega.{arith}
 use borrow.Author.Tests.{ne_eqb}
@@ -20,7 +19,9 @@ use Rattle.cells.proofs.Index.{node_of_lt, state_of_lt, subformula_of_lt}
 use Rattle.cells.proofs.Fill.{is_empty_lem, not_empty, fill_length, fill_filled, fill_outside, fill_new, fill_cell_left, fill_same_cells, fill_idle_cells}
 use Rattle.cells.proofs.Grown.{fill_grown}
 use Rattle.cells.proofs.Counts.{filled_sum, filled_same, filled_none}
-use Rattle.image.specs.Image.{job_of}
+use Rattle.image.specs.Denoted.{job_of}
+use Rattle.image.specs.declared.image.Image.{Image}
+use Rattle.image.proofs.ImageLaws.{image_job}
 use Rattle.table.specs.Lent.{Lent, IsCell}
 use Rattle.table.specs.Filling.{Leaves, Cells, Values, part}
 
@@ -159,7 +160,7 @@ table_small J job =
     mul-le-mul two job.subformulas.below
 
 -- What is lent stays so while a table is filled, and no more is filled than there is.
-module _ (m : List ℕ) (t : Table) (lent : Lent m t) where
+module _ (m : Image) (t : Table) (lent : Lent m t) where
   pub told_small : (wanted after : Table) (told : ℕ) → Leaves t wanted after told → told ≤ 65536
   unfolding filled
   told_small wanted after told l =
@@ -167,10 +168,10 @@ module _ (m : List ℕ) (t : Table) (lent : Lent m t) where
         arith,
         l.told_is,
         lent.long,
-        table_small (job_of m) lent.image.is_job,
+        table_small (job_of m) (image_job m),
         count_le (λ i. is_empty (get_or t i 0) && not (is_empty (get_or wanted i 0))) (length t),
       )
 
   module _ (keep : Cells) (new : Values) (u : Table) (told : ℕ) (l : Leaves t (part (job_of m) keep new t) u told) where
     pub leaves_lent : Lent m u
-    leaves_lent = record { image = lent.image; long = leaves_long (job_of m) t keep new u told l ∙ lent.long }
+    leaves_lent = record { long = leaves_long (job_of m) t keep new u told l ∙ lent.long }

@@ -1,8 +1,10 @@
 -- Filling some cells of a table: those that pass a test. Assumes nothing.
-use Rattle.std.specs.Prelude.{ℕ, ◌≤◌, ◌≡◌, Bool, cond, ◌&&◌, List, eqb, ltb}
+use Rattle.std.specs.Prelude.{ℕ, ◌≤◌, ◌≡◌, Bool, cond, ◌&&◌, eqb, ltb}
 use Rattle.job.specs.Job.{Job}
 use Rattle.cells.specs.Table.{Table, fill, filled}
-use Rattle.image.specs.Image.{rank, job_of}
+use Rattle.image.specs.Image.{rank}
+use Rattle.image.specs.Denoted.{job_of}
+use Rattle.image.specs.declared.image.Image.{Image}
 use Rattle.table.specs.Lent.{Lent}
 
 -- The table that is left is the one that is wanted, and as many cells are filled as are told.
@@ -34,12 +36,12 @@ unfoldable pub up_to_node : ℕ → ℕ → Cells
 up_to_node k i m s j = ltb m i && eqb j k
 
 -- The loops that fill a column along its fragment's list, at rank i, and the columns of a subformula, at node i: the table and the count then.
-pub record Filling (m : List ℕ) (t : Table) (new : Values) (n k i : ℕ) (u : Table) (c : ℕ) : Type 0 where
+pub record Filling (m : Image) (t : Table) (new : Values) (n k i : ℕ) (u : Table) (c : ℕ) : Type 0 where
   pub lent : Lent m u
   pub leaves : Leaves t (part (job_of m) (up_to (job_of m) n k i) new t) u c
   pub few : c ≤ i
 
-pub record FillingNodes (m : List ℕ) (t : Table) (new : Values) (k i : ℕ) (u : Table) (c : ℕ) : Type 0 where
+pub record FillingNodes (m : Image) (t : Table) (new : Values) (k i : ℕ) (u : Table) (c : ℕ) : Type 0 where
   pub lent : Lent m u
   pub leaves : Leaves t (part (job_of m) (up_to_node k i) new t) u c
   pub few : c ≤ 65536

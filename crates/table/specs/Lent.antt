@@ -1,16 +1,16 @@
 -- What is lent beside an image: a table of its job, and the numbers of a cell of it. Assumes nothing.
-use Rattle.std.specs.Prelude.{ℕ, ◌<◌, ◌≡◌, true, List, length}
+use Rattle.std.specs.Prelude.{ℕ, ◌<◌, ◌≡◌, true, length}
 use Rattle.job.specs.Job.{Job, size, subformula_count}
 use Rattle.cells.specs.Table.{Table, table_length, cells_right}
-use Rattle.image.specs.Image.{IsImage, job_of}
+use Rattle.image.specs.Denoted.{job_of}
+use Rattle.image.specs.declared.image.Image.{Image}
 
 -- The table has the length of the job that the image denotes: question 9.
-pub record Lent (m : List ℕ) (t : Table) : Type 0 where
-  pub image : IsImage m
+pub record Lent (m : Image) (t : Table) : Type 0 where
   pub long : length t ≡ table_length (job_of m)
 
 -- And its cells are right: question 10.
-pub record Ready (m : List ℕ) (t : Table) : Type 0 where
+pub record Ready (m : Image) (t : Table) : Type 0 where
   pub lent : Lent m t
   pub right : cells_right (job_of m) t ≡ true
 

@@ -4,19 +4,18 @@ ghost use Rattle.job.specs.Job.{size, subformula_count};
 ghost use Rattle.cells.specs.Fragment.{in_fragment};
 ghost use Rattle.cells.specs.Table.{table_length, index, cell as cell_of, owner_cell};
 ghost use Rattle.cells.specs.Close.{accept_table};
-ghost use Rattle.image.specs.Image.{IsImage, job_of};
+ghost use Rattle.image.specs.Denoted.{job_of};
 ghost use Rattle.table.specs.Lent.{Lent, IsCell};
 ghost use Rattle.table.specs.Filling.{Leaves};
 
-use image::image::{Image, owner, states, subformulas};
+use image::image::Image;
 
 // The byte of a cell.
 pub fn cell_at(m: &Image, n: usize, s: usize, k: usize) -> usize
-    requires image { IsImage m.now }
-    requires cell { IsCell (job_of m.now) n s k }
+    requires { IsCell (job_of m.now) n s k }
     ensures { (result ≡ index (job_of m.now) n s k) × (result < table_length (job_of m.now)) }
 {
-    (n * states(m) + s) * subformulas(m) + k
+    (n * m.states() + s) * m.subformulas() + k
 }
 
 pub fn cell(m: &Image, table: &[u8], n: usize, s: usize, k: usize) -> u8
@@ -33,7 +32,7 @@ pub fn owner_cell(m: &Image, table: &[u8], s: usize, k: usize) -> u8
     requires s_bound { (s < size (job_of m.now)) × (k < subformula_count (job_of m.now)) }
     ensures { result ≡ owner_cell (job_of m.now) table.now s k }
 {
-    cell(m, table, owner(m, s), s, k)
+    cell(m, table, m.owner(s), s, k)
 }
 
 // A cell of a fragment takes the value if it is empty, where 2 leaves it empty. Returns how many cells are filled by that, 0 or 1.

@@ -3,12 +3,9 @@ ghost use Rattle.std.specs.Prelude.{◌≡◌};
 ghost use Rattle.cells.specs.Table.{fresh_table};
 
 // Makes every cell empty.
+#[tactic(auto, unfolding(cells::specs::Table::fresh_table))]
 pub fn clear(table: &mut [u8])
     ensures { table.new ≡ fresh_table table.old }
 {
-    let mut i = 0;
-    while i < table.len() {
-        table[i] = 2;
-        i += 1;
-    }
+    table.fill(2);
 }

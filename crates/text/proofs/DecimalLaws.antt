@@ -14,8 +14,7 @@ use Rattle.law.proofs.Bounded.{by_order, by_equal}
 use Rattle.text.proofs.FieldLaws.{digit_range}
 use Rattle.text.specs.Field.{is_digit, digits, columns}
 use Rattle.text.specs.Decimal.{digit_column, decimal}
-use Rattle.text.specs.declared.field.Field.{Field}
-use Rattle.text.specs.declared.field.Field.TheVariants.{Number, Malformed}
+use Rattle.std.proofs.Common.{Option, Some, None}
 
 -- The last k columns of n; the column before them has the weight 10 ^ k.
 tail : ℕ → ℕ → List ℕ
@@ -50,10 +49,10 @@ column_digit n k h =
 digit_is : (c : ℕ) → 48 ≤ c → c ≤ 57 → is_digit c ≡ true
 digit_is c l g = simp (le-leb 48 c l, le-leb c 57 g)
 
-no_number {ℓ} : {A : Type ℓ} (w : ℕ) → Malformed ≡ Number w → A
+no_number {ℓ} : {A : Type ℓ} (w : ℕ) → None ≡ Some w → A
 no_number w e = let stop : ◌≡◌ {A = ℕ} 0 1 = cc in absurd (omega arith)
 
-number_if : (b : Bool) (x : Field) (w : ℕ) → cond b x Malformed ≡ Number w → (b ≡ true) × (x ≡ Number w)
+number_if : (b : Bool) (x : Option ℕ) (w : ℕ) → cond b x None ≡ Some w → (b ≡ true) × (x ≡ Some w)
 number_if true x w e = (refl, e)
 number_if false x w e = no_number w e
 
@@ -79,14 +78,14 @@ module _ (n k : ℕ) (cs : List ℕ) where
       (ap (λ (v : ℕ). digits v cs) (omega arith))
 
 -- A number's columns are read as the number: those behind its first digit, and all.
-digits_tail : (k n : ℕ) → 0 < n / 10 ^ k → digits (n / 10 ^ k) (tail n k) ≡ Number n
+digits_tail : (k n : ℕ) → 0 < n / 10 ^ k → digits (n / 10 ^ k) (tail n k) ≡ Some n
 unfolding tail digits
-digits_tail zero n h = ap Number (div-one n)
+digits_tail zero n h = ap Some (div-one n)
 digits_tail (suc k) n h = digits_next n k (tail n k) h ∙ digits_tail k n (omega (arith, weight_next n k))
 
-columns_tail : (k n : ℕ) → n < 10 ^ suc k → columns (tail n (suc k)) ≡ Number n
+columns_tail : (k n : ℕ) → n < 10 ^ suc k → columns (tail n (suc k)) ≡ Some n
 unfolding tail digits
-columns_tail zero n h = columns_first n 0 [] h (column_last n) ∙ ap Number (div-one n)
+columns_tail zero n h = columns_first n 0 [] h (column_last n) ∙ ap Some (div-one n)
 columns_tail (suc k) n h =
     by_order n (10 ^ suc k)
     (λ l. columns_space n k (tail n (suc k)) l ∙ columns_tail k n l)
@@ -94,12 +93,12 @@ columns_tail (suc k) n h =
     let some : 0 < n / 10 ^ suc k = (le-div_iff_mul-le (weight_pos (suc k))).1 (omega arith) in
     columns_first n (suc k) (tail n (suc k)) h (column_digit n (suc k) some) ∙ digits_tail (suc k) n some)
 
-pub columns_decimal : (n : ℕ) → n < 100000 → columns (decimal n) ≡ Number n
+pub columns_decimal : (n : ℕ) → n < 100000 → columns (decimal n) ≡ Some n
 unfolding decimal tail
 columns_decimal n h = columns_tail 4 n h
 
 -- Columns read as a number w are its columns: v, the number read before them, is what w has above their weight.
-digits_back : (k v w : ℕ) (cs : List ℕ) → length cs ≡ k → digits v cs ≡ Number w
+digits_back : (k v w : ℕ) (cs : List ℕ) → length cs ≡ k → digits v cs ≡ Some w
     → (w / 10 ^ k ≡ v) × (cs ≡ tail w k) × (digit_column w (10 ^ k) ≡ 48 + w / 10 ^ k % 10)
 unfolding digits tail
 digits_back zero v w [] l e = (div-one w ∙ cc, refl, column_last w)
@@ -116,7 +115,7 @@ digits_back (suc k) v w (c ∷ cs) l e =
     (here, ap₂ ◌∷◌ (byte ∙ sym shown) same, column_digit w (suc k) (omega arith))
 
 -- the same where a column that is no space stands first
-first_back : (k w c : ℕ) (cs : List ℕ) → length cs ≡ k → (c ≡ 32 → ⊥) → columns (c ∷ cs) ≡ Number w
+first_back : (k w c : ℕ) (cs : List ℕ) → length cs ≡ k → (c ≡ 32 → ⊥) → columns (c ∷ cs) ≡ Some w
     → (w < 10 ^ suc k) × (c ∷ cs ≡ tail w (suc k))
 unfolding columns tail
 first_back k w c cs l other e =
@@ -128,7 +127,7 @@ first_back k w c cs l other e =
     let bound = (div-lt_iff_lt-mul (weight_pos k)).0 below in
     (omega (arith, pow-suc 10 k), ap₂ ◌∷◌ (byte ∙ sym shown) same)
 
-columns_back : (k w : ℕ) (cs : List ℕ) → length cs ≡ suc k → columns cs ≡ Number w → (w < 10 ^ suc k) × (cs ≡ tail w (suc k))
+columns_back : (k w : ℕ) (cs : List ℕ) → length cs ≡ suc k → columns cs ≡ Some w → (w < 10 ^ suc k) × (cs ≡ tail w (suc k))
 unfolding columns tail
 columns_back k w [] l e = absurd (omega arith)
 columns_back zero w (c ∷ []) l e =
@@ -144,6 +143,6 @@ columns_back (suc k) w (c ∷ cs) l e =
     (λ other. first_back (suc k) w c cs (omega arith) other e)
 
 -- Five columns read as a number are its columns.
-pub decimal_back : (w : ℕ) (cs : List ℕ) → length cs ≡ 5 → columns cs ≡ Number w → cs ≡ decimal w
+pub decimal_back : (w : ℕ) (cs : List ℕ) → length cs ≡ 5 → columns cs ≡ Some w → cs ≡ decimal w
 unfolding decimal tail
 decimal_back w cs l e = (columns_back 4 w cs l e).1

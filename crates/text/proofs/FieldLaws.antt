@@ -1,65 +1,79 @@
--- Laws of `columns` and `digits`, a column at a time, over the part of the text that is left, and of `formed`, a field at a time.
--- Assumes nothing.
+-- Laws of `columns` and `digits`: the spaces skipped, the digits read one at a time, and how large the number is. Assumes nothing.
 use Prim.Native.Nat.{ℕ, suc, ◌+◌, ◌-◌, ◌*◌, ◌^◌, ◌<◌, ◌≤◌}
-use mathlib.Core.Path.{◌≡◌, refl, ap}
-use mathlib.Core.Bool.{true, false, not, ◌&&◌}
+use mathlib.Core.Path.{◌≡◌, refl, sym, ap, ◌∙◌}
+use mathlib.Core.Bool.{true, false, cond, not, ◌&&◌}
 use mathlib.Core.List.{List, [], ◌∷◌}
-use native.Mathlib.Nat.{add-zero, mul_assoc, mul-pos, mul-le-mul_right, min-le_left, pow-suc, pow-succ', pow-le-pow_right, one-le-pow, lt_of_lt_of_le}
+use native.Mathlib.Nat.{add-sub_cancel_left, mul_assoc, mul-pos, mul-le-mul_right, min-le_left, pow-suc, pow-succ', pow-le-pow_right, one-le-pow, lt_of_lt_of_le}
 use native.Mathlib.Numerals.{add-one}
 use native.Mathlib.Omega.{arith}
-use borrow.Author.Tests.{eq-eqb, ne_eqb, leb-true}
+use borrow.Author.Tests.{leb-true}
 use lib.Dec.{leb, eqb, lit<}
-use Rattle.law.proofs.Bool.{split, and_left, and_right}
-use lib.ListN.{length, get_or, take, drop, length-take}
-use lib.Seq.{slice, slice-cons, slice_empty}
-use Rattle.law.proofs.Lists.{take_drop}
-use Rattle.text.specs.Field.{Text, is_digit, digits, columns, field, well_formed, value, formed}
-use Rattle.text.specs.declared.field.Field.TheVariants.{Number, Malformed}
+use lib.ListN.{length, get_or, take, drop, length-take, length-drop}
+use Rattle.std.proofs.Common.{Option, Some, None, IfSome}
+use Rattle.std.specs.List.{prefix_len}
+use Rattle.std.proofs.lemmas.List.{at_drop_more, at_drop_all, nil_from_length, take_all}
+use Rattle.law.proofs.Bool.{split, and_left, and_right, cond_true, cond_false}
+use Rattle.text.specs.Field.{Text, is_digit, digits, columns, field, value}
 
--- One column more, in the sum that the code has.
-slice_next : (t : List ℕ) (i end : ℕ) → i < end → end ≤ length t → slice i end t ≡ get_or t i 0 ∷ slice (i + 1) end t
-slice_next t i end l h = rw add-one (slice-cons i end t 0 l h)
+one_more : (n : ℕ) → 1 + n ≡ suc n
+one_more n = omega arith
 
-pub field_slice : (t : List ℕ) (at : ℕ) → field t at ≡ columns (slice (at + 0) (at + 5) t)
-unfolding field
-field_slice t at = rw (add-zero) (ap columns (take_drop 5 at t))
-
-module _ (t : List ℕ) (i end : ℕ) (l : i < end) (h : end ≤ length t) where
-  pub columns_space : get_or t i 0 ≡ 32 → columns (slice i end t) ≡ columns (slice (i + 1) end t)
-  unfolding columns
-  columns_space e = rw (slice_next t i end l h) (simp (eq-eqb (get_or t i 0) 32 e))
-
-  pub columns_no_digit : (get_or t i 0 ≡ 32 → ⊥) → is_digit (get_or t i 0) ≡ false → columns (slice i end t) ≡ Malformed
-  unfolding columns
-  columns_no_digit n d = rw (slice_next t i end l h) (simp (ne_eqb (get_or t i 0) 32 n, d))
-
-  pub columns_digit :
-      (get_or t i 0 ≡ 32 → ⊥) → is_digit (get_or t i 0) ≡ true
-      → columns (slice i end t) ≡ digits (get_or t i 0 - 48) (slice (i + 1) end t)
-  unfolding columns
-  columns_digit n d = rw (slice_next t i end l h) (simp (ne_eqb (get_or t i 0) 32 n, d))
-
-  pub digits_no_digit : (v : ℕ) → is_digit (get_or t i 0) ≡ false → digits v (slice i end t) ≡ Malformed
-  unfolding digits
-  digits_no_digit v d = rw (slice_next t i end l h) (simp d)
-
-  pub digits_behind_zero : (v : ℕ) → v ≡ 0 → is_digit (get_or t i 0) ≡ true → digits v (slice i end t) ≡ Malformed
-  unfolding digits
-  digits_behind_zero v z d = rw (slice_next t i end l h) (simp (d, eq-eqb v 0 z))
-
-  pub digits_digit :
-      (v : ℕ) → (v ≡ 0 → ⊥) → is_digit (get_or t i 0) ≡ true
-      → digits v (slice i end t) ≡ digits (v * 10 + (get_or t i 0 - 48)) (slice (i + 1) end t)
-  unfolding digits
-  digits_digit v z d = rw (slice_next t i end l h) (simp (d, ne_eqb v 0 z))
-
-pub columns_none : (t : List ℕ) (i end : ℕ) → i ≡ end → columns (slice i end t) ≡ Malformed
+-- Behind its spaces, a field has nothing, or a first column that is no space.
+behind_blank : (cs : List ℕ) → drop (prefix_len (λ c. eqb c 32) cs) cs ≡ [] → columns cs ≡ None
 unfolding columns
-columns_none t i end e = rw (e, slice_empty)
+behind_blank [] e = refl
+behind_blank (c ∷ cs) e =
+    split (eqb c 32)
+    (λ y. simp y (behind_blank cs (simp (y, one_more) at e)))
+    (λ n. let some : c ∷ cs ≡ [] = simp n at e in cc)
 
-pub digits_none : (t : List ℕ) (i end v : ℕ) → i ≡ end → digits v (slice i end t) ≡ Number v
+behind_first :
+    (cs : List ℕ) (c : ℕ) (more : List ℕ) → drop (prefix_len (λ c. eqb c 32) cs) cs ≡ c ∷ more
+    → columns cs ≡ cond (is_digit c) (digits (c - 48) more) None
+unfolding columns
+behind_first [] c more e = cc
+behind_first (d ∷ cs) c more e =
+    split (eqb d 32)
+    (λ y. simp y (behind_first cs c more (simp (y, one_more) at e)))
+    (λ n. let same : d ∷ cs ≡ c ∷ more = simp n at e in simp n (cc))
+
+-- the same as the code has them, the part of the text that is left behind k spaces
+abbrev part : Text → ℕ → List ℕ
+part t at = take (at + 5 - at) (drop at t)
+
+field_part : (t : Text) (at : ℕ) → field t at ≡ columns (part t at)
+unfolding field
+field_part t at = rw (add-sub_cancel_left at 5)
+
+module _ (t : Text) (at k : ℕ) (e : k ≡ prefix_len (λ c. eqb c 32) (part t at)) where
+  behind : take (length (part t at) - k) (drop k (part t at)) ≡ drop (prefix_len (λ c. eqb c 32) (part t at)) (part t at)
+  behind =
+      take_all _ (drop k (part t at)) (omega (arith, length-drop k (part t at)))
+      ∙ ap (λ (n : ℕ). drop n (part t at)) e
+
+  pub field_blank : length (take (length (part t at) - k) (drop k (part t at))) ≡ 0 → field t at ≡ None
+  field_blank none = field_part t at ∙ behind_blank (part t at) (sym behind ∙ nil_from_length _ none)
+
+  module _ (c : ℕ) (more : List ℕ) (first : take (length (part t at) - k) (drop k (part t at)) ≡ c ∷ more) where
+    field_first : field t at ≡ cond (is_digit c) (digits (c - 48) more) None
+    field_first = field_part t at ∙ behind_first (part t at) c more (sym behind ∙ first)
+
+    pub field_no_digit : is_digit c ≡ false → field t at ≡ None
+    field_no_digit n = field_first ∙ cond_false (is_digit c) (digits (c - 48) more) None n
+
+    pub field_digit : is_digit c ≡ true → field t at ≡ digits (c - 48) more
+    field_digit y = field_first ∙ cond_true (is_digit c) (digits (c - 48) more) None y
+
+-- A column more is read behind the number v, or none is left.
+pub digits_more :
+    (cs : List ℕ) (i v : ℕ) → i < length cs
+    → digits v (drop i cs) ≡ cond (is_digit (get_or cs i 0) && not (eqb v 0)) (digits (v * 10 + (get_or cs i 0 - 48)) (drop (i + 1) cs)) None
 unfolding digits
-digits_none t i end v e = rw (e, slice_empty)
+digits_more cs i v l = at_drop_more (digits v) cs i 0 l
+
+pub digits_done : (cs : List ℕ) (i v : ℕ) → length cs ≤ i → digits v (drop i cs) ≡ Some v
+unfolding digits
+digits_done cs i v l = at_drop_all (digits v) cs i l
 
 -- A number of m digits is below 10 ^ m, and of at most five below 100,000.
 pub digit_more : (v d m : ℕ) → v < 10 ^ m → d ≤ 9 → v * 10 + d < 10 ^ (m + 1)
@@ -107,20 +121,11 @@ field_below t at =
     let small = digits_small (value (columns (take 5 (drop at t)))) (length (take 5 (drop at t))) h (columns_below (take 5 (drop at t))) in
     omega arith
 
--- A line of n fields at this offset, after i of them: one field more, none left.
-module _ (t : Text) (at n i : ℕ) where
-  pub formed_malformed : i < n → field t (at + 5 * i) ≡ Malformed → formed t (at + 5 * i) (n - i) ≡ false
-  unfolding formed well_formed
-  formed_malformed l e = let s : n - i ≡ suc (n - (i + 1)) = omega arith in rw (s, e)
+-- as the read number has it
+short : (f r : Option ℕ) → r ≡ f → value f ≤ 99999 → IfSome r (λ n. n ≤ 99999)
+unfolding value
+short f None e h = tt
+short f (Some n) e h = rw (← e) at h
 
-  pub formed_field :
-      i < n → (v : ℕ) → field t (at + 5 * i) ≡ Number v → formed t (at + 5 * i) (n - i) ≡ formed t (at + 5 * (i + 1)) (n - (i + 1))
-  unfolding formed well_formed
-  formed_field l v e =
-      let s : n - i ≡ suc (n - (i + 1)) = omega arith in
-      let o : at + 5 * i + 5 ≡ at + 5 * (i + 1) = omega arith in
-      rw (s, e, o)
-
-pub formed_end : (t : Text) (at : ℕ) → formed t at 0 ≡ eqb (get_or t at 0) 10
-unfolding formed
-formed_end t at = refl
+pub field_short : (t : List ℕ) (at : ℕ) (r : Option ℕ) → r ≡ field t at → IfSome r (λ n. n ≤ 99999)
+field_short t at r e = short (field t at) r e (field_below t at)

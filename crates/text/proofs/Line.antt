@@ -12,27 +12,22 @@ use borrow.Author.Tests.{eqb-true, eq-eqb}
 use Rattle.law.proofs.Bool.{and_left, and_right}
 use Rattle.law.proofs.Chunks.{chunks_length, chunk_at, chunks_flatten}
 use Rattle.law.specs.Lists.{tab, flatten}
+use Rattle.text.specs.Fields.{numbers_at}
 use Rattle.text.specs.Field.{Text, columns, field, well_formed, value, number_at, formed}
 use Rattle.text.specs.Decimal.{decimal, line, Short}
-use Rattle.text.specs.declared.field.Field.{Field}
-use Rattle.text.specs.declared.field.Field.TheVariants.{Number, Malformed}
+use Rattle.std.proofs.Common.{Option, Some, None}
 use Rattle.text.proofs.DecimalLaws.{columns_decimal, decimal_back}
 
 -- The fields at this offset are read as these numbers, and byte 10 stands behind them.
 unfoldable pub HasNumbers : Text → ℕ → List ℕ → Type 0
 HasNumbers t at [] = get_or t at 0 ≡ 10
-HasNumbers t at (n ∷ ns) = (field t at ≡ Number n) × HasNumbers t (at + 5) ns
-
--- the numbers of the n fields at this offset
-unfoldable pub numbers_at : Text → ℕ → ℕ → List ℕ
-numbers_at t at zero = []
-numbers_at t at (suc n) = number_at t at ∷ numbers_at t (at + 5) n
+HasNumbers t at (n ∷ ns) = (field t at ≡ Some n) × HasNumbers t (at + 5) ns
 
 -- A well-formed field is read as its value.
-number_is : (f : Field) → well_formed f ≡ true → f ≡ Number (value f)
+number_is : (f : Option ℕ) → well_formed f ≡ true → f ≡ Some (value f)
 unfolding well_formed value
-number_is (Number v) e = refl
-number_is Malformed e = absurd (true≢false (sym e))
+number_is (Some v) e = refl
+number_is None e = absurd (true≢false (sym e))
 
 module _ (t : Text) where
   -- `formed` tests that the fields are read as the numbers they hold, and nothing else

@@ -1,16 +1,17 @@
 -- A line written a number at a time, and byte 10 behind the last. Assumes nothing.
-use Prim.Native.Nat.{ℕ, zero, suc, ◌+◌, ◌*◌, ◌<◌}
+use Prim.Native.Nat.{ℕ, zero, suc, ◌+◌, ◌*◌, ◌<◌, ◌≤◌}
 use mathlib.Core.Path.{◌≡◌, refl, sym, ◌∙◌, ap}
 use mathlib.Core.List.{List, [], ◌∷◌, ◌++◌, map, append-nil}
 use native.Mathlib.Omega.{arith}
-use lib.ListN.{length, get_or, set, length-map, get_or-map}
+use lib.ListN.{length, get_or, set, drop, length-map, get_or-map}
+use Rattle.std.proofs.lemmas.List.{drop_more, drop_all}
 use lib.Seq.{sets, sets-eq, drop-length}
 use Rattle.law.specs.Lists.{tab, flatten}
 use Rattle.law.proofs.Lists.{tab_list}
 use Rattle.law.proofs.Chunks.{chunks_length}
 use Rattle.law.proofs.Pieces.{written_behind}
 use Rattle.text.specs.Field.{Text}
-use Rattle.text.specs.Decimal.{decimal, line, Short}
+use Rattle.text.specs.Decimal.{digit_column, decimal, line, Short}
 use Rattle.text.proofs.Line.{line_length_lem}
 
 pub short_at : (ns : List ℕ) (i : ℕ) → Short ns → i < length ns → get_or ns i 0 < 100000
@@ -22,6 +23,28 @@ short_at (n ∷ ns) (suc i) s l = short_at ns i s.1 (omega arith)
 pub decimal_length : (n : ℕ) → length (decimal n) ≡ 5
 unfolding decimal
 decimal_length n = refl
+
+-- The weights of the columns; with the i-th column written, one fewer is left.
+abbrev pub weights : List ℕ
+weights = 10000 ∷ 1000 ∷ 100 ∷ 10 ∷ 1 ∷ []
+
+columns_left :
+    (n i : ℕ) → i < 5 → drop i (decimal n) ≡ digit_column n (get_or weights i 0) ∷ drop (i + 1) (decimal n)
+unfolding decimal
+columns_left n i l =
+    drop_more (map (digit_column n) weights) i (digit_column n 0) l
+    ∙ ap (λ (c : ℕ). c ∷ drop (i + 1) (decimal n)) (get_or-map (digit_column n) weights i 0)
+
+pub column_written :
+    (out : Text) (at n i : ℕ) → i < 5
+    → sets (set out (at + i) (digit_column n (get_or weights i 0))) (at + (i + 1)) (drop (i + 1) (decimal n)) ≡ sets out (at + i) (drop i (decimal n))
+column_written out at n i l =
+    let next : at + (i + 1) ≡ suc (at + i) = omega arith in
+    rw (next, columns_left n i l)
+
+pub columns_written : (out : Text) (at n i : ℕ) → 5 ≤ i → sets out (at + i) (drop i (decimal n)) ≡ out
+unfolding decimal
+columns_written out at n i l = ap (sets out (at + i)) (drop_all i (decimal n) l)
 
 -- The field of the i-th number.
 abbrev pub field_of : List ℕ → ℕ → Text

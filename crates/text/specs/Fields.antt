@@ -1,13 +1,11 @@
--- The numbers of a line, where it is well-formed: two for a state or an edge, three for a subformula. Assumes nothing.
-use Rattle.std.specs.Prelude.{ℕ, ◌+◌, cond}
+-- The numbers of a line of n fields, where it is well-formed. Assumes nothing.
+use Rattle.std.specs.Prelude.{ℕ, zero, suc, ◌+◌, List, [], ◌∷◌, cond, Option, Some, None}
 use Rattle.text.specs.Field.{Text, number_at, formed}
-use Rattle.text.specs.declared.fields.Pair.{Pair}
-use Rattle.text.specs.declared.fields.Pair.TheVariants as pairs
-use Rattle.text.specs.declared.fields.Triple.{Triple}
-use Rattle.text.specs.declared.fields.Triple.TheVariants as triples
 
-unfoldable pub pair : Text → ℕ → Pair
-pair t at = cond (formed t at 2) (pairs.Numbers (number_at t at) (number_at t (at + 5))) pairs.Malformed
+-- the numbers of the n fields at this offset
+unfoldable pub numbers_at : Text → ℕ → ℕ → List ℕ
+numbers_at t at zero = []
+numbers_at t at (suc n) = number_at t at ∷ numbers_at t (at + 5) n
 
-unfoldable pub triple : Text → ℕ → Triple
-triple t at = cond (formed t at 3) (triples.Numbers (number_at t at) (number_at t (at + 5)) (number_at t (at + 10))) triples.Malformed
+unfoldable pub line_numbers : Text → ℕ → ℕ → Option (List ℕ)
+line_numbers t at n = cond (formed t at n) (Some (numbers_at t at n)) None

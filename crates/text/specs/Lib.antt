@@ -1,4 +1,3 @@
 pub mod Field
 pub mod Decimal
-pub mod Leaves
 pub mod Fields

@@ -1,100 +1,40 @@
-// Reading: a number is five columns, spaces and then digits; a line is its fields and byte 10.
-ghost use Rattle.std.specs.Prelude.{◌≡◌, true, ◌+◌, ◌-◌, ◌*◌, ◌≤◌, ◌<◌, length};
-ghost use Rattle.std.proofs.Math.Seq.{slice};
-ghost use Rattle.text.specs.Field.{is_digit, digits, field, number_at, formed};
-ghost use Rattle.text.specs.Leaves.{Skipped};
+// Reading: a number is five columns, spaces and then digits.
+ghost use Rattle.std.specs.Prelude.{◌≡◌, ◌+◌, ◌≤◌, eqb, length, IfSome};
+ghost use Rattle.std.specs.List.{prefix_len};
+ghost use Rattle.text.specs.Field.{digits, field};
 
-#[derive(Clone, Copy)]
-pub enum Field {
-    Number(usize),
-    Malformed,
-}
-
-pub fn is_digit(c: u8) -> bool
-    ensures { result ≡ is_digit c }
+// How many columns are spaces before anything else.
+fn spaces(columns: &[u8]) -> usize
+    ensures { result ≡ prefix_len (λ c. eqb c 32) columns.now }
 {
-    48 <= c && c <= 57
+    columns.iter().take_while(|&&c| c == b' ').count()
 }
 
-pub fn digit(c: u8) -> usize
-    requires { is_digit c ≡ true }
-    ensures { (result ≡ c - 48) × (result ≤ 9) }
-{
-    (c - 48) as usize
-}
-
-// How many of the five columns at `at` are spaces before anything else.
-fn spaces(text: &[u8], at: usize) -> usize
-    requires { at + 5 ≤ length text.now }
-    ensures { Skipped text.now at result }
-{
-    let mut i = 0;
-    while i < 5 {
-        if text[at + i] != 32 {
-            return i;
-        }
-        i += 1;
-    }
-    i
-}
-
-// The rest of a field, from `from` to `end`, behind a first digit `first`.
-fn tail(text: &[u8], from: usize, end: usize, first: usize) -> Field
-    requires { (first ≤ 9) × (from ≤ end) × (end ≤ from + 4) × (end ≤ length text.now) }
-    ensures { result ≡ digits first (slice from end text.now) }
+// The columns behind a first digit `first`.
+fn read_digits(first: usize, columns: &[u8]) -> Option<usize>
+    requires { (first ≤ 9) × (length columns.now ≤ 4) }
+    ensures { result ≡ digits first columns.now }
 {
     let mut value = first;
-    let mut i = from;
-    while i < end {
-        let c = text[i];
-        if !is_digit(c) {
-            return Field::Malformed;
+    for &c in columns {
+        if !c.is_ascii_digit() || value == 0 {
+            return None;
         }
-        if value == 0 {
-            return Field::Malformed;
-        }
-        value = value * 10 + digit(c);
-        i += 1;
+        value = value * 10 + usize::from(c - b'0');
     }
-    Field::Number(value)
+    Some(value)
 }
 
-// The field at `at`.
-pub fn read_field(text: &[u8], at: usize) -> Field
+// The number in the field at `at`, if the field is well-formed.
+pub fn read_field(text: &[u8], at: usize) -> Option<usize>
     requires { at + 5 ≤ length text.now }
-    ensures { result ≡ field text.now at }
+    ensures is { result ≡ field text.now at }
+    ensures short { IfSome result (λ n. n ≤ 99999) }
 {
-    let skipped = spaces(text, at);
-    if 5 <= skipped {
-        return Field::Malformed;
+    let columns = &text[at..at + 5];
+    let (&first, more) = columns[spaces(columns)..].split_first()?;
+    if !first.is_ascii_digit() {
+        return None;
     }
-    let c = text[at + skipped];
-    if !is_digit(c) {
-        return Field::Malformed;
-    }
-    tail(text, at + skipped + 1, at + 5, digit(c))
-}
-
-// The number in the field at `at`, 0 where the field is not well-formed.
-pub fn number(text: &[u8], at: usize) -> usize
-    requires { at + 5 ≤ length text.now }
-    ensures { (result ≡ number_at text.now at) × (result ≤ 99999) }
-{
-    match read_field(text, at) {
-        Field::Number(value) => value,
-        Field::Malformed => 0,
-    }
-}
-
-// Whether a line of so many well-formed fields and byte 10 stands at `at`.
-pub fn is_formed(text: &[u8], at: usize, fields: usize) -> bool
-    requires { (fields ≤ 4) × (at + 5 * fields < length text.now) }
-    ensures { result ≡ formed text.now at fields }
-{
-    for i in 0..fields {
-        let Field::Number(_) = read_field(text, at + 5 * i) else {
-            return false;
-        };
-    }
-    text[at + 5 * fields] == 10
+    read_digits(usize::from(first - b'0'), more)
 }

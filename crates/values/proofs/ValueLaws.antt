@@ -1,12 +1,12 @@
 -- The value of one cell, by the tests of the code. Assumes nothing.
 use Prim.Native.Nat.{ℕ, suc, ◌+◌, ◌-◌, ◌/◌, ◌%◌, ◌^◌, ◌<◌, ◌≤◌}
 use mathlib.Core.Path.{◌≡◌, refl, sym, ◌∙◌, ap, ap₂}
-use mathlib.Core.Bool.{Bool, beq, true, false, cond, not, ◌&&◌, ◌||◌}
+use mathlib.Core.Bool.{Bool, beq, true, false, cond, not}
 use mathlib.Core.Logic.{⊎_elim}
 use native.Mathlib.Nat.{mod-lt}
 use native.Mathlib.Numerals.{add-one}
 use native.Mathlib.Omega.{arith}
-use borrow.Author.Tests.{eq-eqb, ne_eqb}
+use borrow.Author.Tests.{eq-eqb, ne_eqb, not-true, not-false}
 use lib.ListN.{get_or}
 use lib.Dec.{eqb}
 use Rattle.law.proofs.Bounded.{by_order, by_equal, all_intro, all_fails, any_intro, any_none}
@@ -21,41 +21,12 @@ use Rattle.cells.specs.Table.{Table, cell}
 use Rattle.cells.specs.Step.{opposite, both, next, column}
 use Rattle.cells.proofs.Columns.{next_same}
 use Rattle.image.specs.Image.{place_of, edge_to, first_edge}
-use Rattle.image.proofs.Places.{place_inner}
+use Rattle.image.specs.declared.place.Place.{Place}
+use Rattle.image.specs.declared.place.Place.TheVariants.{Inner}
+use Rattle.image.proofs.Places.{same_place, place_inner}
 use Rattle.image.proofs.Runs.{all_run, some_run}
 use Rattle.table.specs.Column.{cells_of}
 use Rattle.values.specs.Values.{value_at}
-
--- and
-right_no : (x y : Bool) → 0 ≡ cond {A = ℕ} (x && false) 1 (cond (y || true) 0 2)
-right_no true true = refl
-right_no true false = refl
-right_no false true = refl
-right_no false false = refl
-
-no_right : (x : Bool) → 2 ≡ cond {A = ℕ} (x && false) 1 2
-no_right true = refl
-no_right false = refl
-
-pub both_left : (a b : ℕ) → a ≡ 0 → 0 ≡ both a b
-unfolding both
-both_left a b e = simp e
-
-pub both_right : (a b : ℕ) → b ≡ 0 → 0 ≡ both a b
-unfolding both
-both_right a b e = rw e (right_no (eqb a 1) (eqb a 0))
-
-pub both_neither : (a b : ℕ) → (a ≡ 0 → ⊥) → (b ≡ 0 → ⊥) → (a ≡ 1 → ⊥) → 2 ≡ both a b
-unfolding both
-both_neither a b x y z = simp (ne_eqb a 0 x, ne_eqb b 0 y, ne_eqb a 1 z)
-
-pub both_none : (a b : ℕ) → (a ≡ 0 → ⊥) → (b ≡ 0 → ⊥) → (b ≡ 1 → ⊥) → 2 ≡ both a b
-unfolding both
-both_none a b x y z = simp (ne_eqb a 0 x, ne_eqb b 0 y, ne_eqb b 1 z) (no_right (eqb a 1))
-
-pub both_all : (a b : ℕ) → a ≡ 1 → b ≡ 1 → 1 ≡ both a b
-unfolding both
-both_all a b x y = simp (x, y)
 
 -- the code's test that two Bools differ
 differ : (x y : Bool) → not (beq x y) ≡ true → x ≡ not y
@@ -141,33 +112,39 @@ quantifier_not true = refl
 quantifier_not false = refl
 
 -- AX and EX: the place of a state, and whether its successors' cells of a meet 1, and 0
-module _ (J : Job) (t : Table) (n s a : ℕ) (all : Bool) (place : ℕ) (is : place ≡ place_of J n s) where
-  abbrev value : ℕ
-  value = next J n (quantifier all) (cells_of J t n a) s
+module _
+    (J : Job) (t : Table) (n s a : ℕ) (all : Bool) (place : Place) (is : place ≡ place_of J n s) (border : Bool)
+    (told : border ≡ not (same_place place Inner))
+  where
+    abbrev value : ℕ
+    value = next J n (quantifier all) (cells_of J t n a) s
 
-  pub next_border : (place ≡ 2 → ⊥) → 2 ≡ value
-  unfolding next
-  next_border b = simp (sym (place_inner J n s), sym is, ne_eqb place 2 b)
+    inner_told : border ≡ not (inner J n s)
+    inner_told = told ∙ ap not (place_inner J n s place is)
 
-  module _ (here : place ≡ 2) (yes : Bool) (met : yes ≡ over J.structure (quantifier all) s (λ u. eqb (cell J t n u a) 1)) where
-    inner_here : inner J n s ≡ true
-    inner_here = sym (place_inner J n s) ∙ ap (λ p. eqb p 2) (sym is) ∙ eq-eqb place 2 here
-
-    pub next_yes : yes ≡ true → 1 ≡ value
+    pub next_border : border ≡ true → 2 ≡ value
     unfolding next
-    next_yes e = simp (inner_here, sym met ∙ e)
+    next_border b = simp (not-true (inner J n s) (sym inner_told ∙ b))
 
-    module _ (no : Bool) (other : no ≡ over J.structure (quantifier (not all)) s (λ u. eqb (cell J t n u a) 0)) where
-      other_is : over J.structure (dual (quantifier all)) s (λ u. eqb (cell J t n u a) 0) ≡ no
-      other_is = ap (λ q. over J.structure q s (λ u. eqb (cell J t n u a) 0)) (sym (quantifier_not all)) ∙ sym other
+    module _ (here : border ≡ false) (yes : Bool) (met : yes ≡ over J.structure (quantifier all) s (λ u. eqb (cell J t n u a) 1)) where
+      inner_here : inner J n s ≡ true
+      inner_here = not-false (inner J n s) (sym inner_told ∙ here)
 
-      pub next_no : yes ≡ false → no ≡ true → 0 ≡ value
+      pub next_yes : yes ≡ true → 1 ≡ value
       unfolding next
-      next_no e f = simp (inner_here, sym met ∙ e, other_is ∙ f)
+      next_yes e = simp (inner_here, sym met ∙ e)
 
-      pub next_open : yes ≡ false → no ≡ false → 2 ≡ value
-      unfolding next
-      next_open e f = simp (inner_here, sym met ∙ e, other_is ∙ f)
+      module _ (no : Bool) (other : no ≡ over J.structure (quantifier (not all)) s (λ u. eqb (cell J t n u a) 0)) where
+        other_is : over J.structure (dual (quantifier all)) s (λ u. eqb (cell J t n u a) 0) ≡ no
+        other_is = ap (λ q. over J.structure q s (λ u. eqb (cell J t n u a) 0)) (sym (quantifier_not all)) ∙ sym other
+
+        pub next_no : yes ≡ false → no ≡ true → 0 ≡ value
+        unfolding next
+        next_no e f = simp (inner_here, sym met ∙ e, other_is ∙ f)
+
+        pub next_open : yes ≡ false → no ≡ false → 2 ≡ value
+        unfolding next
+        next_open e f = simp (inner_here, sym met ∙ e, other_is ∙ f)
 
 -- an atom's bit is 1 or 0
 bit_is : (x : ℕ) → x < 2 → x ≡ cond (eqb x 1) 1 0
@@ -188,7 +165,7 @@ value_same J job n k at at' same (And a b) o s l = ap₂ both (same a o.0 s l) (
 value_same J job n k at at' same (Next all a) o s l =
     next_same J n (quantifier all) (at a) (at' a)
     (λ u r. same a o u (⊎_elim (λ h. h) (λ (e, h, q). rw (← q) (job.ends e h).1) r)) s
-value_same J job n k at at' same (Sets all start grow v) o s l = refl
+value_same J job n k at at' same (Sets g) o s l = refl
 
 -- It is what the column has there, unless that goes by sets.
 pub column_value :
@@ -199,8 +176,7 @@ column_value J n k at (Atom j) other s l = tab_at _ (size J) s 2 l
 column_value J n k at (Not a) other s l = tab_at _ (size J) s 2 l
 column_value J n k at (And a b) other s l = tab_at _ (size J) s 2 l
 column_value J n k at (Next all a) other s l = tab_at _ (size J) s 2 l
-column_value J n k at (Sets all start grow v) other s l =
-    absurd (other (record { all = all; start = start; grow = grow; value = v; is = refl }))
+column_value J n k at (Sets g) other s l = absurd (other (record { growth = g; is = refl }))
 
 -- a value by the rule's case
 pub by_case :

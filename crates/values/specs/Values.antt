@@ -4,7 +4,7 @@ use Rattle.job.specs.Job.{Job, atom}
 use Rattle.job.specs.Rule.{quantifier}
 use Rattle.job.specs.declared.rule.Rule.{Rule}
 use Rattle.job.specs.declared.rule.Rule.TheVariants.{Atom, Not, And, Next, Sets}
-use Rattle.cells.specs.Table.{Table}
+use Rattle.cells.specs.Table.{Table, cell, is_empty}
 use Rattle.cells.specs.Step.{opposite, both, next}
 use Rattle.table.specs.Column.{cells_of}
 use Rattle.table.specs.Filling.{Values}
@@ -15,8 +15,8 @@ value_at J n at (Atom j) s = cond (atom J.structure j s) 1 0
 value_at J n at (Not a) s = opposite (at a s)
 value_at J n at (And a b) s = both (at a s) (at b s)
 value_at J n at (Next all a) s = next J n (quantifier all) (at a) s
-value_at J n at (Sets all start grow v) s = 2
+value_at J n at (Sets g) s = 2
 
--- The values of a column over the cells of the table t.
-abbrev pub values : Job → Table → ℕ → Rule → Values
-values J t n rule m s j = value_at J n (cells_of J t n) rule s
+-- What a cell of the column takes: its value, over the cells of the table t, if it is empty.
+abbrev pub empty_values : Job → Table → ℕ → Rule → Values
+empty_values J t n rule m s j = cond (is_empty (cell J t m s j)) (value_at J n (cells_of J t n) rule s) 2

@@ -4,45 +4,38 @@ ghost use Rattle.job.specs.Job.{size, subformula_count, over};
 ghost use Rattle.job.specs.Rule.{quantifier, InRange};
 ghost use Rattle.cells.specs.Table.{cell as cell_of};
 ghost use Rattle.cells.specs.Step.{opposite as opposite_of, both as both_of, next as next_of};
-ghost use Rattle.image.specs.Image.{job_of};
+ghost use Rattle.image.specs.Denoted.{job_of};
 ghost use Rattle.table.specs.Lent.{Lent, IsCell};
 ghost use Rattle.table.specs.Column.{cells_of};
 ghost use Rattle.values.specs.Values.{value_at};
 
-use image::image::{Image, first_edge, label, place, target};
+use image::image::Image;
+use image::place::Place;
 use job::rule::Rule;
 use table::cell::cell;
 
 // The other value of a filled cell.
+#[tactic(auto, unfolding(cells::specs::Step::opposite, cells::specs::Table::is_empty))]
 fn opposite(a: u8) -> u8
     ensures { result ≡ opposite_of a }
 {
-    if a == 2 {
-        return 2;
+    match a {
+        0 => 1,
+        2 => 2,
+        _ => 0,
     }
-    if a == 0 {
-        return 1;
-    }
-    0
 }
 
 // True if both are true, false if either is false, else empty.
+#[tactic(auto, unfolding(cells::specs::Step::both))]
 fn both(a: u8, b: u8) -> u8
     ensures { result ≡ both_of a b }
 {
-    if a == 0 {
-        return 0;
+    match (a, b) {
+        (0, _) | (_, 0) => 0,
+        (1, 1) => 1,
+        _ => 2,
     }
-    if b == 0 {
-        return 0;
-    }
-    if a != 1 {
-        return 2;
-    }
-    if b != 1 {
-        return 2;
-    }
-    1
 }
 
 // Whether all, or some, of the edges out of s lead to a state whose cell of subformula a is v.
@@ -51,14 +44,11 @@ fn meets(m: &Image, table: &[u8], n: usize, s: usize, all: bool, a: usize, v: u8
     requires cell { IsCell (job_of m.now) n s a }
     ensures { result ≡ over (job_of m.now).structure (quantifier all) s (λ u. eqb (cell_of (job_of m.now) table.now n u a) v) }
 {
-    let end = first_edge(m, s + 1);
-    let mut e = first_edge(m, s);
-    while e < end {
-        let u = target(m, e);
+    for e in m.first_edge(s)..m.first_edge(s + 1) {
+        let u = m.target(e);
         if (cell(m, table, n, u, a) == v) != all {
             return !all;
         }
-        e += 1;
     }
     all
 }
@@ -69,7 +59,7 @@ fn next(m: &Image, table: &[u8], n: usize, s: usize, all: bool, a: usize) -> u8
     requires cell { IsCell (job_of m.now) n s a }
     ensures { result ≡ next_of (job_of m.now) n (quantifier all) (cells_of (job_of m.now) table.now n a) s }
 {
-    if place(m, n, s) != 2 {
+    if m.place(n, s) != Place::Inner {
         return 2;
     }
     if meets(m, table, n, s, all, a, 1) {
@@ -89,7 +79,7 @@ pub fn value(m: &Image, table: &[u8], n: usize, s: usize, rule: Rule) -> u8
 {
     match rule {
         Rule::Atom(j) => {
-            let bit = (label(m, s) >> j) % 2;
+            let bit = (m.label(s) >> j) % 2;
             bit as u8
         }
         Rule::Not(a) => {
@@ -102,6 +92,6 @@ pub fn value(m: &Image, table: &[u8], n: usize, s: usize, rule: Rule) -> u8
             both(a, b)
         }
         Rule::Next(all, a) => next(m, table, n, s, all, a),
-        Rule::Sets(_, _, _, _) => 2,
+        Rule::Sets(_) => 2,
     }
 }

@@ -1,2 +1,3 @@
 pub mod ShortLaws
 pub mod Printed
+mod FiveLaws

@@ -1,7 +1,7 @@
 -- `close_column`: the nodes passed so far are closed.
 use Prim.Native.Nat.{◌-◌, ◌≤◌}
 use mathlib.Core.Path.{◌≡◌}
-use Rattle.image.specs.Image.{job_of}
+use Rattle.image.specs.Denoted.{job_of}
 use Rattle.table.specs.Filling.{FillingNodes}
 use Rattle.closing.specs.Closed.{constant}
 use Rattle.closing.proofs.close_column.Given as goal

@@ -1,23 +1,18 @@
 -- `exchange`: the steps, then the copying.
 use Prim.Native.Nat.{◌+◌}
 use Rattle.cells.specs.Finish.{exchange}
-use Rattle.image.specs.Image.{job_of}
+use Rattle.image.specs.Denoted.{job_of}
 use Rattle.exchange.specs.Running.{Ran}
-use Rattle.exchange.proofs.RunningLaws.{stepped_ready, ran_exchanged}
+use Rattle.exchange.proofs.RunningLaws.{ran_exchanged}
 use native.Mathlib.Omega.{arith}
 use Rattle.exchange.proofs.exchange.Goals as goal
 use Rattle.exchange.proofs.exchange.Goals.{After-slice_known-3-1}
-
-pub copy_news-copied-requires : goal.copy_news-copied-requires
-copy_news-copied-requires c =
-    let here = c.steps-stepped.ensures in
-    record { lent = (stepped_ready c.requires _ here).lent; stale_len = (here.tracked.stale_long, here.tracked.news_long); exchanged = here.tracked.exchanged }
 
 -- after the copying
 module _ (c : After-slice_known-3-1) where
   exchanged :
       Ran (job_of c.args.m.now) c.args.table.now (exchange (job_of c.args.m.now) c.args.table.now)
-      c.copy_news-copied.new.table c.copy_news-copied.new.stale c.copy_news-copied.new.news
+      c.copy_news-copied.new.table c.copy_news-copied.new.pending
       (c.steps-stepped.result + c.copy_news-copied.result)
   exchanged =
       ran_exchanged c.requires c.steps-stepped.ensures c.copy_news-copied.ensures

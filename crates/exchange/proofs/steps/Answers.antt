@@ -1,48 +1,34 @@
 -- `steps`: the nodes passed so far are stepped.
 use Prim.Native.Nat.{◌+◌, ◌<◌}
-use mathlib.Core.Path.{◌≡◌, sym, ◌∙◌, subst}
 use Rattle.cells.specs.Finish.{steps_up_to}
-use Rattle.image.specs.Image.{job_of}
+use Rattle.image.specs.Denoted.{job_of}
 use Rattle.exchange.specs.Running.{Ran}
 use Rattle.exchange.proofs.RunningLaws.{ran_none, stepped_ready, ran_more}
-use borrow.Author.Rules.{rules}
 use native.Mathlib.Omega.{arith}
 use Rattle.exchange.proofs.steps.Goals as goal
 use Rattle.exchange.proofs.steps.Goals.{After-step_stale-filled}
 
 pub loop-n-init : goal.loop-n-init
-loop-n-init c = (search rules, ran_none c.requires)
+loop-n-init c = (omega arith, c.nodes-n-end.ensures.0, ran_none c.requires)
 
 pub step_stale-filled-requires : goal.step_stale-filled-requires
 step_stale-filled-requires c =
     let l = c.loop-n in
-    let under : l.n < (job_of c.args.m.now).nodes = omega arith in
-    let right = l.invariant.1.tracked in
-    record { ready = stepped_ready c.requires l.n l.invariant.1; n_bound = under; stale_len = (right.stale_long, right.news_long); rested = right.rested l.n under }
+    let under : l.n < (job_of c.args.m.now).nodes = omega (arith, c.loop-n.invariant.1) in
+    let right = l.invariant.2.tracked in
+    record { ready = stepped_ready c.requires l.n l.invariant.2; n_bound = under; rested = right.rested l.n under }
 
 -- after the step of a node
 module _ (c : After-step_stale-filled) where
   stepped :
       Ran (job_of c.args.m.now) c.args.table.now
       (steps_up_to (job_of c.args.m.now) (c.loop-n.n + 1) c.args.table.now)
-      c.step_stale-filled.new.table c.step_stale-filled.new.stale c.step_stale-filled.new.news
+      c.step_stale-filled.new.table c.step_stale-filled.new.pending
       (c.loop-n.filled + c.step_stale-filled.result)
-  stepped = ran_more c.requires c.loop-n.n c.loop-n.invariant.1 (omega arith) c.step_stale-filled.ensures
+  stepped = ran_more c.requires c.loop-n.n c.loop-n.invariant.2 (omega (arith, c.loop-n.invariant.1)) c.step_stale-filled.ensures
 
 pub overflow_add-filled : goal.overflow_add-filled
 overflow_add-filled c = let few = (stepped (goal.at.overflow_add-filled c).After-step_stale-filled).few in omega arith
 
 pub loop-n-preserved : goal.loop-n-preserved
-loop-n-preserved c = (search rules, stepped (goal.at.loop-n-preserved c).After-step_stale-filled)
-
-pub shape_of-table : goal.shape_of-table
-shape_of-table c =
-    (stepped_ready c.requires c.loop-n.n c.loop-n.invariant.1).lent.long ∙ sym c.requires.ready.lent.long
-
-pub returns : goal.returns
-returns c =
-    let l = c.loop-n in
-    let all : l.n ≡ (job_of c.args.m.now).nodes = omega arith in
-    subst
-    (λ n. Ran (job_of c.args.m.now) c.args.table.now (steps_up_to (job_of c.args.m.now) n c.args.table.now) l.table l.stale l.news l.filled)
-    all l.invariant.1
+loop-n-preserved c = (omega arith, c.loop-n.invariant.1, stepped (goal.at.loop-n-preserved c).After-step_stale-filled)

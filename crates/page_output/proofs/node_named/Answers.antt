@@ -1,18 +1,20 @@
 -- `node_named`: by the argument's length and its byte.
-use mathlib.Core.Path.{sym, ◌∙◌}
+use Rattle.std.proofs.Common.{◌≡◌, length, sym, ◌∙◌, arith}
 use Rattle.page_output.proofs.NodeLaws.{other_length, no_digit, a_digit}
 use Rattle.page_output.proofs.node_named.Goals as goal
 
-pub returns-then-argument-ne1 : goal.returns-then-argument-ne1
-returns-then-argument-ne1 c = sym (other_length _ c.if-argument-ne1.true)
+pub returns-in-len1 : goal.returns-in-len1
+returns-in-len1 c =
+    let one : length c.args.argument.now ≡ 1 = omega arith in
+    c.from.ensures ∙ sym (a_digit _ one (sym c.is_ascii_digit.ensures.value ∙ c.if-is_ascii_digit.true))
 
-pub returns-then-not-is_digit : goal.returns-then-not-is_digit
-returns-then-not-is_digit c =
-    sym (no_digit _ c.if-argument-ne1.false (sym c.is_digit.ensures ∙ c.if-not-is_digit.true))
+pub returns-in_default : goal.returns-in_default
+returns-in_default c = sym (other_length _ (λ one. omega arith))
 
-pub digit-requires : goal.digit-requires
-digit-requires c = sym c.is_digit.ensures ∙ c.if-not-is_digit.false
+pub returns-in_default-2 : goal.returns-in_default-2
+returns-in_default-2 c =
+    let one : length c.args.argument.now ≡ 1 = omega arith in
+    sym (no_digit _ one (sym c.is_ascii_digit.ensures.value ∙ c.if-is_ascii_digit.false))
 
-pub returns : goal.returns
-returns c =
-    c.digit.ensures.0 ∙ sym (a_digit _ c.if-argument-ne1.false (sym c.is_digit.ensures ∙ c.if-not-is_digit.false))
+pub returns-in_default-3 : goal.returns-in_default-3
+returns-in_default-3 c = sym (other_length _ (λ one. omega arith))

@@ -1,49 +1,53 @@
 -- `page_output`: the page of the table that finish leaves, or the numbers of the refusal.
-use Prim.Native.Nat.{◌-◌}
-use mathlib.Core.Path.{◌≡◌, sym, ap, ◌∙◌}
-use native.Mathlib.Nat.{sub-zero}
+use mathlib.Core.Path.{◌≡◌, sym, ap, ap₂, ◌∙◌}
 use lib.ListN.{take, replicate}
+use Rattle.std.proofs.Common.{Err}
+use Rattle.job.specs.Answer.{refused}
 use Rattle.cells.specs.Table.{Table}
 use Rattle.cells.specs.Calls.{finish, after}
 use Rattle.calls.specs.Told.{page_told}
 use Rattle.page_output.proofs.OutputLaws.{numbers_short, said_is, page_said, refusal_said}
 use borrow.Author.Rules.{rules}
 use Rattle.page_output.proofs.page_output.Goals as goal
-use Rattle.page_output.proofs.page_output.Goals.{After-page-told}
+use Rattle.page_output.proofs.page_output.Goals.{After-page, After-line}
 
 -- the table that the call is lent
-module _ (c : After-page-told) where
+module _ (c : After-page) where
   abbrev t : Table
-  t = take (c.table_size-size.result - 0) c.finish_fresh.new.cells
+  t = take c.table_size-size.result c.finish_fresh.new.cells
 
-  table_is :
-      t ≡ after finish c.args.text.now (replicate c.table_size-size.result 2)
-  table_is = ap (λ k. take k c.finish_fresh.new.cells) (sub-zero c.table_size-size.result) ∙ c.finish_fresh.ensures.left
+  table_is : t ≡ after finish c.args.text.now (replicate c.table_size-size.result 2)
+  table_is = c.finish_fresh.ensures.left
 
-pub returns-in_default : goal.returns-in_default
+pub new-requires : goal.new-requires
+new-requires c = let few = c.page_size.ensures.small in search rules
+
+pub returns-in-Ok : goal.returns-in-Ok
 unfolding page_told
-returns-in_default c =
-    let size = c.table_size-size in
-    let told_is = sym (ap page_told c.in_default.is) ∙ c.page-told.ensures.told in record {
-      right = page_said c.args.text.now _ _ size.ensures (t (goal.at.returns-in_default c).After-page-told) (table_is (goal.at.returns-in_default c).After-page-told) _ _ _ (search rules) told_is c.page-told.ensures.written
-          c.page_size.ensures
-          ∙ said_is _ _ _ c.node_named.ensures;
-      inside = let few = c.page_size.ensures.small in search rules;
-    }
+returns-in-Ok c =
+    let here = (goal.at.returns-in-Ok c).After-page in
+    let told_is = sym (ap page_told c.in-Ok.is) ∙ c.page.ensures.told in
+    c.new.ensures
+    ∙ page_said c.args.text.now _ _ c.table_size-size.ensures (t here) (table_is here) _ _ _ (search rules) told_is c.page.ensures.written
+    c.page_size.ensures
+    ∙ said_is _ _ _ c.node_named.ensures
+
+-- the numbers of the refusal
+module _ (c : After-line) where
+  refused_is : refused c.from.result c.line.result 0 ≡ page_told (Err c.in-Err.why)
+  unfolding page_told
+  refused_is = ap₂ (λ n l. refused n l 0) (c.from.ensures ∙ c.number.ensures) c.line.ensures
 
 pub write_line-requires : goal.write_line-requires
-unfolding page_told
 write_line-requires c =
-    let told_is = sym (ap page_told c.in-Refused.is) ∙ c.page-told.ensures.told in
+    let told_is = refused_is (goal.at.write_line-requires c).After-line ∙ sym (ap page_told c.in-Err.is) ∙ c.page.ensures.told in
     (numbers_short _ _ _ _ _ _ _ told_is, search rules)
 
-pub returns : goal.returns
-unfolding page_told
-returns c =
-    let size = c.table_size-size in
-    let told_is = sym (ap page_told c.in-Refused.is) ∙ c.page-told.ensures.told in record {
-      right = refusal_said c.args.text.now _ _ size.ensures (t (goal.at.returns c).After-page-told) (table_is (goal.at.returns c).After-page-told) _ _ _ _ _ (search rules) (search rules) told_is
-          c.write_line.ensures
-          ∙ said_is _ _ _ c.node_named.ensures;
-      inside = search rules;
-    }
+pub returns-in-Err : goal.returns-in-Err
+returns-in-Err c =
+    let here = (goal.at.returns-in-Err c).After-page in
+    let told_is = refused_is (goal.at.returns-in-Err c).After-line ∙ sym (ap page_told c.in-Err.is) ∙ c.page.ensures.told in
+    c.new-in-Err.ensures
+    ∙ refusal_said c.args.text.now _ _ c.table_size-size.ensures (t here) (table_is here) _ _ _ _ _ (search rules) (search rules) told_is
+    c.write_line.ensures
+    ∙ said_is _ _ _ c.node_named.ensures

@@ -1,45 +1,33 @@
 -- `write_cells`: a cell more, behind those written.
-use Rattle.law.proofs.Pieces.{written_start}
-use Rattle.image.specs.Image.{job_of}
-use Rattle.page_writer.proofs.PartLaws.{cells_turn, cells_over, run_inside, run_small, run_low}
-use borrow.Author.Rules.{rules}
-use native.Mathlib.Omega.{arith}
+use Rattle.std.proofs.Common.{ℕ, ◌≤◌, ◌+◌, length, length-take, length-drop, arith, rules}
+use Rattle.image.specs.Denoted.{job_of}
+use Rattle.page_writer.proofs.PartLaws.{cells_turn, cells_over, run_inside, run_low}
 use Rattle.page_writer.proofs.write_cells.Goals as goal
+use Rattle.page_writer.proofs.write_cells.Goals.{After-subformulas}
 
-pub cell_at-first-requires : goal.cell_at-first-requires
-cell_at-first-requires c =
-    let image = c.requires.ready.lent.image in
-    record { image = image; cell = record { node_in = c.requires.n_bound.0; state_in = c.requires.n_bound.1; subformula_in = image.is_job.subformulas.above } }
+-- the run lies in the table
+within : (c : After-subformulas) → c.cell_at-first.result + c.subformulas.result ≤ length c.args.table.now
+within c =
+    let a = c.args in
+    run_inside a.m.now a.table.now c.requires.ready a.n a.s c.requires.n_bound.0 c.requires.n_bound.1 _ _ c.cell_at-first.ensures.0 c.subformulas.ensures.0
 
-pub bounds-table-first : goal.bounds-table-first
-bounds-table-first c =
-    run_inside _ _ c.requires.ready _ _ c.loop-k.k c.requires.n_bound.0 c.requires.n_bound.1 (search rules) _ c.cell_at-first.ensures.0
-
-pub overflow_add-first : goal.overflow_add-first
-overflow_add-first c =
-    let small =
-    run_small _ _ c.requires.ready _ _ c.loop-k.k c.requires.n_bound.0 c.requires.n_bound.1 (search rules) _ c.cell_at-first.ensures.0 in
-    omega arith
+pub slice_bounds-cell-items-end : goal.slice_bounds-cell-items-end
+slice_bounds-cell-items-end c = let fits = within (goal.at.slice_bounds-cell-items-end c).After-subformulas in search (rules, fits)
 
 pub mark-requires : goal.mark-requires
 mark-requires c =
-    run_low _ _ c.requires.ready _ _ c.loop-k.k c.requires.n_bound.0 c.requires.n_bound.1 (search rules) _ c.cell_at-first.ensures.0
-
-pub write_two-requires : goal.write_two-requires
-write_two-requires c =
-    let room = c.requires.n_bound.2 in
-    omega (arith, c.loop-k.invariant.long)
+    let a = c.args in
+    run_low a.m.now a.table.now c.requires.ready a.n a.s c.requires.n_bound.0 c.requires.n_bound.1 _ c.loop-k.k _ c.cell_at-first.ensures.0
+    (omega (arith, length-take {A = ℕ}))
 
 pub loop-k-preserved : goal.loop-k-preserved
 loop-k-preserved c =
     let a = c.args in
-    cells_turn (job_of a.m.now) a.table.now a.n a.s _ _ c.loop-k.out _ _ c.loop-k.k _ c.cell_at-first.ensures.0
-    c.loop-k.invariant (search rules) c.mark.ensures c.write_two.ensures
+    cells_turn (job_of a.m.now) a.table.now a.n a.s _ _ _ c.loop-k.out _ _ c.loop-k.k _ c.cell_at-first.ensures.0 (omega (arith, length-take {A = ℕ}))
+    c.loop-k.invariant (omega (arith, length-take {A = ℕ})) c.mark.ensures c.write_two.ensures
 
 pub returns : goal.returns
 returns c =
     let a = c.args in
-    cells_over (job_of a.m.now) a.table.now a.n a.s _ _ _ _ c.loop-k.invariant (search rules) c.subformulas-count.ensures.0
-
-pub loop-k-init : goal.loop-k-init
-loop-k-init c = written_start 2 _ _ _ _
+    let fits = within (goal.at.returns c).After-subformulas in
+    cells_over (job_of a.m.now) a.table.now a.n a.s _ _ c.loop-k.k c.loop-k.invariant (omega (arith, length-take {A = ℕ}, length-drop {A = ℕ}))

@@ -7,6 +7,6 @@ pub returns-then-cell-eq2 : goal.returns-then-cell-eq2
 unfolding is_empty
 returns-then-cell-eq2 c = simp (eq-eqb c.args.cell 2 c.if-cell-eq2.true)
 
-pub returns : goal.returns
+pub returns-else-cell-eq2 : goal.returns-else-cell-eq2
 unfolding is_empty
-returns c = simp (ne_eqb c.args.cell 2 c.if-cell-eq2.false)
+returns-else-cell-eq2 c = simp (ne_eqb c.args.cell 2 c.if-cell-eq2.false)

@@ -8,6 +8,6 @@ pub returns-then-n-eq-NO_NODE : goal.returns-then-n-eq-NO_NODE
 unfolding node_read
 returns-then-n-eq-NO_NODE c = c.owner.ensures.0 ∙ sym (simp (eq-eqb _ 255 c.if-n-eq-NO_NODE.true))
 
-pub returns : goal.returns
+pub returns-else-n-eq-NO_NODE : goal.returns-else-n-eq-NO_NODE
 unfolding node_read
-returns c = simp (ne_eqb _ 255 c.if-n-eq-NO_NODE.false)
+returns-else-n-eq-NO_NODE c = simp (ne_eqb _ 255 c.if-n-eq-NO_NODE.false)

@@ -7,29 +7,29 @@ use Rattle.job.specs.Job.{decode}
 use Rattle.job.specs.Answer.{numbers}
 use Rattle.cells.specs.Table.{table_length}
 use Rattle.cells.specs.Calls.{finish, answer}
+use Rattle.calls.specs.Told.{finish_told}
 use Rattle.verdict_line.specs.VerdictLine.{verdict_line}
 use Rattle.cells.proofs.CallLaws.{any_table}
 use Rattle.verdict_line.proofs.ShortLaws.{answer_short}
 use Rattle.verdict_line.proofs.verdict_line.Goals as goal
-use Rattle.verdict_line.proofs.verdict_line.Goals.{After-of_finish}
+use Rattle.verdict_line.proofs.verdict_line.Goals.{After-finish_fresh}
 
-pub finish_fresh-done-requires : goal.finish_fresh-done-requires
-finish_fresh-done-requires c =
+pub finish_fresh-requires : goal.finish_fresh-requires
+finish_fresh-requires c =
     record { size_in_bounds = subst (λ n. c.table_size-size.result ≤ n) (sym (length-replicate {A = ℕ} 65536 2)) c.table_size-size.ensures.small; cells_value = refl }
 
 numbers_here :
-    (c : After-of_finish)
+    (c : After-finish_fresh)
     → let x = c.args.text.now in
-    c.of_finish.result ≡ numbers (answer finish x (replicate (table_length (decode x)) 2))
+    numbers (finish_told c.finish_fresh.result) ≡ numbers (answer finish x (replicate (table_length (decode x)) 2))
 numbers_here c =
-    c.of_finish.ensures
-    ∙ ap numbers
-    (c.finish_fresh-done.ensures.told
+    ap numbers
+    (c.finish_fresh.ensures.told
     ∙ any_table finish _ _ _ (λ own read. ap (λ n. replicate n 2) (c.table_size-size.ensures.right own read)))
 
 pub line_of-requires : goal.line_of-requires
-line_of-requires c = subst Short (sym (numbers_here (goal.at.line_of-requires c).After-of_finish)) (answer_short _)
+line_of-requires c = subst Short (sym (numbers_here (goal.at.line_of-requires c).After-finish_fresh)) (answer_short _)
 
 pub returns : goal.returns
 unfolding verdict_line
-returns c = c.line_of.ensures ∙ ap line (numbers_here (goal.at.returns c).After-of_finish)
+returns c = c.line_of.ensures ∙ ap line (numbers_here (goal.at.returns c).After-finish_fresh)

@@ -1,44 +1,46 @@
 -- `finish`: the questions, and the rounds.
-use Prim.Native.Nat.{ℕ}
-use mathlib.Core.Path.{refl, ap, ◌∙◌}
-use mathlib.Core.List.{List}
-use native.Mathlib.Omega.{arith}
+use Rattle.std.proofs.Common.{◌≡◌, refl, ap, ◌∙◌, arith}
+use Rattle.std.proofs.lemmas.Result.{err_from_is_err_and}
 use Rattle.job.specs.Answer.{accepted}
-use Rattle.cells.specs.Table.{Table}
-use Rattle.cells.specs.Calls.{Call, width}
-use Rattle.asking.specs.Asked.{call_of, Admitted}
+use Rattle.cells.specs.Calls.{Call, width, told, left}
+use Rattle.cells.proofs.CallLaws.{reading_refused}
+use Rattle.image.specs.Denoted.{job_of}
 use Rattle.table.specs.Lent.{Ready}
 use Rattle.questions.proofs.NoLaws.{table_ready}
 use Rattle.calls.specs.Told.{finish_told, finish_rounds}
+use Rattle.calls.proofs.AskedLaws.{own_no, told_is, left_is}
 use Rattle.calls.proofs.finish.finish.Goals as goal
-use Rattle.calls.proofs.finish.finish.Goals.{Else-why-ne0}
+use Rattle.calls.proofs.finish.finish.Goals.{In_ok-ask_table}
 
-pub returns-then-why-ne0 : goal.returns-then-why-ne0
-unfolding finish_told finish_rounds width call_of
-returns-then-why-ne0 c =
-    let (told_is, left_is) = c.ask-why.ensures.refused_so c.if-why-ne0.true in
-    record { told = told_is; left = left_is; bounded = omega arith }
+pub returns-in_err-m : goal.returns-in_err-m
+unfolding finish_told finish_rounds width
+returns-in_err-m c =
+    let p = err_from_is_err_and c.from_residual.result c.from_residual.ensures.1 in
+    let both = reading_refused Call.finish c.args.text.now c.args.table.now _ c.in_err-m.ensures in
+    rw (p.1, p.2) (record { told = both.0; left = both.1; bounded = omega arith })
+
+pub returns-in_err-ask_table : goal.returns-in_err-ask_table
+unfolding finish_told finish_rounds width
+returns-in_err-ask_table c =
+    let p = err_from_is_err_and c.from_residual-in_err-ask_table.result c.from_residual-in_err-ask_table.ensures.1 in
+    let no = c.in_err-ask_table.ensures in
+    let both = own_no Call.finish c.args.text.now c.args.table.now _ c.in_ok-m.ensures _ no.first_no no.no_line in
+    rw (p.1, p.2) (record { told = both.0; left = both.1; bounded = omega arith })
 
 -- no question is answered no
-module _ (c : Else-why-ne0) where
-  abbrev t : Table
-  t = c.args.table.now
-
-  abbrev m : List ℕ
-  m = c.ask-why.new.m
-
-  taken : Admitted (Call.finish) c.args.text.now t m
-  unfolding call_of
-  taken = c.ask-why.ensures.admitted_so c.if-why-ne0.false
-
-  fine : Ready m t
-  fine = table_ready m t taken.image 0 taken.none_no refl
+fine_here : (c : In_ok-ask_table) → Ready c.in_ok-m.m c.args.table.now
+fine_here c = table_ready c.in_ok-m.m c.args.table.now 0 c.in_ok-ask_table.ensures.first_no refl
 
 pub finish_table-requires : goal.finish_table-requires
-finish_table-requires c = fine (goal.at.finish_table-requires c).Else-why-ne0
+finish_table-requires c = fine_here (goal.at.finish_table-requires c).In_ok-ask_table
 
 pub returns : goal.returns
 unfolding finish_told finish_rounds
 returns c =
-    let told_is = c.finish_table.ensures.cells_value in let left_is = c.finish_table.ensures.table_after in let few = c.finish_table.ensures.rounds_bound in
-    record { told = ap accepted told_is ∙ (taken (goal.at.returns c).Else-why-ne0).told_is; left = left_is ∙ (taken (goal.at.returns c).Else-why-ne0).left_is; bounded = rw (← (taken (goal.at.returns c).Else-why-ne0).denotes) few }
+    let none = c.in_ok-ask_table.ensures.first_no in
+    let done = c.finish_table.ensures in
+    record {
+      told = ap accepted done.cells_value ∙ told_is Call.finish c.args.text.now c.args.table.now _ c.in_ok-m.ensures none;
+      left = done.table_after ∙ left_is Call.finish c.args.text.now c.args.table.now _ c.in_ok-m.ensures none;
+      bounded = rw (← c.in_ok-m.ensures.denotes) done.rounds_bound;
+    }

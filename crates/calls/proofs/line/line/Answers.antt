@@ -1,14 +1,14 @@
 -- `line`: the part that `line_of` names.
-use mathlib.Core.Path.{ap, ap₂, ◌∙◌}
+use Rattle.std.proofs.Common.{◌∙◌, ap, sym, take, drop}
 use native.Mathlib.Nat.{add-sub_cancel_left}
-use lib.ListN.{take, drop}
-use Rattle.job.specs.Read.{line_of}
+use Rattle.layout.proofs.LinesLaws.{line_some, line_empty}
 use Rattle.calls.proofs.line.line.Goals as goal
 
-pub returns : goal.returns
-unfolding line_of
-returns c =
-    let text = c.args.text.now in
-    let part = c.line_part-part in
-    ap (λ n. take n (drop part.result.start text)) (add-sub_cancel_left part.result.start part.result.size)
-    ∙ ap₂ (λ n a. take n (drop a text)) part.ensures.stands.1 part.ensures.stands.0
+pub returns-in-Some : goal.returns-in-Some
+returns-in-Some c =
+    let part = c.in-Some.part in
+    ap (λ n. take n (drop part.start c.args.text.now)) (add-sub_cancel_left part.start part.size)
+    ∙ line_some _ _ part (sym c.line_part.ensures.stands ∙ c.in-Some.is)
+
+pub returns-in-None : goal.returns-in-None
+returns-in-None c = line_empty _ _ (sym c.line_part.ensures.stands ∙ c.in-None.is)

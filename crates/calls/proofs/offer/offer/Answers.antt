@@ -1,43 +1,47 @@
 -- `offer`: the questions, and the owner's cell.
-use Prim.Native.Nat.{ℕ, ◌<◌}
-use mathlib.Core.Path.{refl, ap, ◌∙◌}
-use mathlib.Core.List.{List, [], ◌∷◌}
-use Rattle.job.specs.Job.{size, subformula_count}
+use Rattle.std.proofs.Common.{ℕ, ◌<◌, ◌≡◌, refl, ap, ◌∙◌, [], ◌∷◌}
+use Rattle.std.proofs.lemmas.Result.{err_from_is_err_and}
 use Rattle.job.specs.Answer.{accepted}
-use Rattle.cells.specs.Table.{Table}
 use Rattle.cells.specs.Calls.{Call, width, told, left}
-use Rattle.image.specs.Image.{job_of}
-use Rattle.asking.specs.Asked.{call_of, Admitted}
+use Rattle.cells.proofs.CallLaws.{reading_refused}
+use Rattle.image.specs.Denoted.{job_of}
+use Rattle.job.specs.Job.{size, subformula_count}
 use Rattle.table.specs.Lent.{Ready}
 use Rattle.questions.proofs.FineLaws.{offer_fine}
 use Rattle.calls.specs.Told.{offer_told}
+use Rattle.calls.proofs.AskedLaws.{own_no, told_is, left_is}
 use Rattle.calls.proofs.offer.offer.Goals as goal
-use Rattle.calls.proofs.offer.offer.Goals.{Else-why-ne0}
+use Rattle.calls.proofs.offer.offer.Goals.{In_ok-ask_offer}
 
-pub returns-then-why-ne0 : goal.returns-then-why-ne0
-unfolding offer_told width call_of
-returns-then-why-ne0 c = let both = c.ask-why.ensures.refused_so c.if-why-ne0.true in record { told = both.0; left = both.1 }
+pub returns-in_err-m : goal.returns-in_err-m
+unfolding offer_told width
+returns-in_err-m c =
+    let p = err_from_is_err_and c.from_residual.result c.from_residual.ensures.1 in
+    let both = reading_refused (Call.offer c.args.state c.args.subformula) c.args.text.now c.args.table.now _ c.in_err-m.ensures in
+    rw (p.1, p.2) (record { told = both.0; left = both.1 })
+
+pub returns-in_err-ask_offer : goal.returns-in_err-ask_offer
+unfolding offer_told width
+returns-in_err-ask_offer c =
+    let p = err_from_is_err_and c.from_residual-in_err-ask_offer.result c.from_residual-in_err-ask_offer.ensures.1 in
+    let no = c.in_err-ask_offer.ensures in
+    let both = own_no (Call.offer c.args.state c.args.subformula) c.args.text.now c.args.table.now _ c.in_ok-m.ensures _ no.first_no no.no_line in
+    rw (p.1, p.2) (record { told = both.0; left = both.1 })
 
 -- no question is answered no
-module _ (c : Else-why-ne0) where
-  abbrev t : Table
-  t = c.args.table.now
-
-  abbrev m : List ℕ
-  m = c.ask-why.new.m
-
-  taken : Admitted (Call.offer c.args.state c.args.subformula) c.args.text.now t m
-  unfolding call_of
-  taken = c.ask-why.ensures.admitted_so c.if-why-ne0.false
-
-  fine : Ready m t × ((c.args.state < size (job_of m)) × (c.args.subformula < subformula_count (job_of m)))
-  fine = offer_fine m t taken.image 0 refl _ _ taken.none_no
+fine_here : (c : In_ok-ask_offer) → Ready c.in_ok-m.m c.args.table.now × ((c.args.state < size (job_of c.in_ok-m.m)) × (c.args.subformula < subformula_count (job_of c.in_ok-m.m)))
+fine_here c = offer_fine c.in_ok-m.m c.args.table.now 0 refl _ _ c.in_ok-ask_offer.ensures.first_no
 
 pub owner_cell-requires : goal.owner_cell-requires
-owner_cell-requires c = let (ready, numbers) = fine (goal.at.owner_cell-requires c).Else-why-ne0 in record { lent = ready.lent; s_bound = numbers }
+owner_cell-requires c = let both = fine_here (goal.at.owner_cell-requires c).In_ok-ask_offer in record { lent = both.0.lent; s_bound = both.1 }
 
 pub returns : goal.returns
 unfolding offer_told told left
 returns c =
     let a = c.args in
-    record { told = ap (λ v. accepted (a.state ∷ a.subformula ∷ v ∷ [])) c.owner_cell.ensures ∙ (taken (goal.at.returns c).Else-why-ne0).told_is; left = (taken (goal.at.returns c).Else-why-ne0).left_is }
+    let call = Call.offer a.state a.subformula in
+    let none = c.in_ok-ask_offer.ensures.first_no in
+    record {
+      told = ap (λ (v : ℕ). accepted (a.state ∷ a.subformula ∷ v ∷ [])) c.owner_cell.ensures ∙ told_is call a.text.now a.table.now _ c.in_ok-m.ensures none;
+      left = left_is call a.text.now a.table.now _ c.in_ok-m.ensures none;
+    }

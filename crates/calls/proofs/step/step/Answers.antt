@@ -1,42 +1,46 @@
 -- `step`: the questions, and the step of one node.
-use Prim.Native.Nat.{ℕ, ◌<◌}
-use mathlib.Core.Path.{refl, ap, ◌∙◌}
-use mathlib.Core.List.{List, [], ◌∷◌}
+use Rattle.std.proofs.Common.{ℕ, ◌<◌, ◌≡◌, refl, ap, ◌∙◌, [], ◌∷◌}
+use Rattle.std.proofs.lemmas.Result.{err_from_is_err_and}
 use Rattle.job.specs.Answer.{accepted}
-use Rattle.cells.specs.Table.{Table}
 use Rattle.cells.specs.Calls.{Call, width, told, left}
-use Rattle.image.specs.Image.{job_of}
-use Rattle.asking.specs.Asked.{call_of, Admitted}
+use Rattle.cells.proofs.CallLaws.{reading_refused}
+use Rattle.image.specs.Denoted.{job_of}
 use Rattle.table.specs.Lent.{Ready}
 use Rattle.questions.proofs.FineLaws.{step_fine}
 use Rattle.calls.specs.Told.{step_told}
+use Rattle.calls.proofs.AskedLaws.{own_no, told_is, left_is}
 use Rattle.calls.proofs.step.step.Goals as goal
-use Rattle.calls.proofs.step.step.Goals.{Else-why-ne0}
+use Rattle.calls.proofs.step.step.Goals.{In_ok-ask_step}
 
-pub returns-then-why-ne0 : goal.returns-then-why-ne0
-unfolding step_told width call_of
-returns-then-why-ne0 c = let both = c.ask-why.ensures.refused_so c.if-why-ne0.true in record { told = both.0; left = both.1 }
+pub returns-in_err-m : goal.returns-in_err-m
+unfolding step_told width
+returns-in_err-m c =
+    let p = err_from_is_err_and c.from_residual.result c.from_residual.ensures.1 in
+    let both = reading_refused (Call.step c.args.node) c.args.text.now c.args.table.now _ c.in_err-m.ensures in
+    rw (p.1, p.2) (record { told = both.0; left = both.1 })
+
+pub returns-in_err-ask_step : goal.returns-in_err-ask_step
+unfolding step_told width
+returns-in_err-ask_step c =
+    let p = err_from_is_err_and c.from_residual-in_err-ask_step.result c.from_residual-in_err-ask_step.ensures.1 in
+    let no = c.in_err-ask_step.ensures in
+    let both = own_no (Call.step c.args.node) c.args.text.now c.args.table.now _ c.in_ok-m.ensures _ no.first_no no.no_line in
+    rw (p.1, p.2) (record { told = both.0; left = both.1 })
 
 -- no question is answered no
-module _ (c : Else-why-ne0) where
-  abbrev t : Table
-  t = c.args.table.now
-
-  abbrev m : List ℕ
-  m = c.ask-why.new.m
-
-  taken : Admitted (Call.step c.args.node) c.args.text.now t m
-  unfolding call_of
-  taken = c.ask-why.ensures.admitted_so c.if-why-ne0.false
-
-  fine : Ready m t × (c.args.node < (job_of m).nodes)
-  fine = step_fine m t taken.image 0 refl _ taken.none_no
+fine_here : (c : In_ok-ask_step) → Ready c.in_ok-m.m c.args.table.now × (c.args.node < (job_of c.in_ok-m.m).nodes)
+fine_here c = step_fine c.in_ok-m.m c.args.table.now 0 refl _ c.in_ok-ask_step.ensures.first_no
 
 pub step_node-requires : goal.step_node-requires
-step_node-requires c = let both = fine (goal.at.step_node-requires c).Else-why-ne0 in record { ready = both.0; node_bound = both.1 }
+step_node-requires c = let both = fine_here (goal.at.step_node-requires c).In_ok-ask_step in record { ready = both.0; node_bound = both.1 }
 
 pub returns : goal.returns
 unfolding step_told told left
 returns c =
+    let call = Call.step c.args.node in
+    let none = c.in_ok-ask_step.ensures.first_no in
     let filled = c.step_node.ensures in
-    record { told = ap (λ r. accepted (r ∷ [])) filled.told_is ∙ (taken (goal.at.returns c).Else-why-ne0).told_is; left = filled.table_is ∙ (taken (goal.at.returns c).Else-why-ne0).left_is }
+    record {
+      told = ap (λ (r : ℕ). accepted (r ∷ [])) filled.told_is ∙ told_is call c.args.text.now c.args.table.now _ c.in_ok-m.ensures none;
+      left = filled.table_is ∙ left_is call c.args.text.now c.args.table.now _ c.in_ok-m.ensures none;
+    }

@@ -1,23 +1,30 @@
 -- `lay_state`: the place, and the entry where the state is in the fragment.
-use Prim.Native.Nat.{◌≤◌}
-use mathlib.Core.Path.{ap, ◌∙◌}
-use lib.ListN.{length, length-set}
-use Rattle.image.specs.Image.{job_of}
+use Prim.Native.Nat.{ℕ, ◌<◌, ◌≤◌}
+use mathlib.Core.Path.{◌≡◌, ap, ◌∙◌}
+use mathlib.Core.List.{List}
+use lib.ListN.{set}
+use denote.Enum.Declared.{tag_of}
+use Rattle.image.specs.Image.{words_job, place_number}
+use Rattle.image.specs.declared.place.Place.{Place}
+use Rattle.image.specs.declared.place.Place.TheVariants.{Outside, Border, Inner}
+use Rattle.image.specs.contracts.place.Place.{the_type}
+use Rattle.image.proofs.Places.{place_as}
 use Rattle.decoding.proofs.FragmentLaws.{rank_few, added_none, added_one}
 use native.Mathlib.Omega.{arith}
 use Rattle.decoding.proofs.decode.lay_state.Goals as goal
 use Rattle.decoding.proofs.decode.lay_state.Goals.{Start}
 
 few : (a : Start) → a.args.found ≤ a.args.s
-few a = omega (arith, rank_few (job_of a.args.m.now) a.args.n a.args.s, a.requires.n_bound.2)
+few a = omega (arith, rank_few (words_job a.args.m.now) a.args.n a.args.s, a.requires.n_bound.2)
 
-pub store-requires : goal.store-requires
-store-requires c = (c.requires.chained.denotes.long, omega arith, omega arith)
+number_small : (p : Place) → place_number p < 65536
+number_small Outside = omega arith
+number_small Border = omega arith
+number_small Inner = omega arith
 
-pub returns-then-place-eq0 : goal.returns-then-place-eq0
-returns-then-place-eq0 c =
-    added_none (job_of c.args.m.now) c.requires.chained.denotes.is_job c.args.n c.args.s c.args.found c.place_in-place.result
-    c.requires.n_bound.0 c.requires.n_bound.1 c.place_in-place.ensures.0 c.requires.n_bound.2 c.args.m.now _ c.store.ensures c.if-place-eq0.true
+placed :
+    (m n : List ℕ) (i : ℕ) (p : Place) → (tag_of the_type p < 65536 → n ≡ set m i (tag_of the_type p)) → n ≡ set m i (place_number p)
+placed m n i p stored = stored (omega (arith, place_as p, number_small p)) ∙ ap (λ x. set m i x) (place_as p)
 
 pub overflow_add-n-3 : goal.overflow_add-n-3
 overflow_add-n-3 c = let f = few (goal.at.overflow_add-n-3 c).Start in omega arith
@@ -25,31 +32,19 @@ overflow_add-n-3 c = let f = few (goal.at.overflow_add-n-3 c).Start in omega ari
 pub overflow_add-n-4 : goal.overflow_add-n-4
 overflow_add-n-4 c = let f = few (goal.at.overflow_add-n-4 c).Start in omega arith
 
-pub store-requires-2 : goal.store-requires-2
-store-requires-2 c =
-    let f = few (goal.at.store-requires-2 c).Start in
-    (ap length c.store.ensures ∙ length-set c.args.m.now _ _ ∙ c.requires.chained.denotes.long, omega arith, omega arith)
+pub set_word-requires-2 : goal.set_word-requires-2
+set_word-requires-2 c = let f = few (goal.at.set_word-requires-2 c).Start in omega arith
 
 pub overflow_add-result : goal.overflow_add-result
 overflow_add-result c = let f = few (goal.at.overflow_add-result c).Start in omega arith
 
 pub returns : goal.returns
 returns c =
-    added_one (job_of c.args.m.now) c.requires.chained.denotes.is_job c.args.n c.args.s c.args.found c.place_in-place.result
-    c.requires.n_bound.0 c.requires.n_bound.1 c.place_in-place.ensures.0 c.requires.n_bound.2 c.args.m.now _ c.store.ensures c.if-place-eq0.false
-    _ c.store-2.ensures
+    added_one (words_job c.args.m.now) c.requires.chained.denotes.is_job c.args.n c.args.s c.args.found c.place_in-place.result
+    c.requires.n_bound.0 c.requires.n_bound.1 c.place_in-place.ensures _ c.eq.ensures c.requires.n_bound.2 c.args.m.now _ (placed _ _ _ _ c.set_word.ensures.exact) c.if-eq.false
+    _ (c.set_word-2.ensures.exact (omega (arith, few (goal.at.returns c).Start)))
 
-pub place_in-place-requires : goal.place_in-place-requires
-place_in-place-requires c = record { chained = c.requires.chained; n_bound = (c.requires.n_bound.0, c.requires.n_bound.1) }
-
-pub overflow_mul-n : goal.overflow_mul-n
-overflow_mul-n c = omega arith
-
-pub overflow_add-n : goal.overflow_add-n
-overflow_add-n c = omega arith
-
-pub overflow_add-n-2 : goal.overflow_add-n-2
-overflow_add-n-2 c = omega arith
-
-pub overflow_mul-n-2 : goal.overflow_mul-n-2
-overflow_mul-n-2 c = omega arith
+pub returns-then-eq : goal.returns-then-eq
+returns-then-eq c =
+    added_none (words_job c.args.m.now) c.requires.chained.denotes.is_job c.args.n c.args.s c.args.found c.place_in-place.result
+    c.requires.n_bound.0 c.requires.n_bound.1 c.place_in-place.ensures _ c.eq.ensures c.requires.n_bound.2 c.args.m.now _ (placed _ _ _ _ c.set_word.ensures.exact) c.if-eq.true

@@ -1,44 +1,25 @@
--- `run_start`: no edge passed so far starts at state s or above.
-use Rattle.image.specs.Image.{job_of}
-use Rattle.image.proofs.ImageLaws.{edges_read, source_read}
-use Rattle.image.proofs.Runs.{run_here, run_later, first_few}
-use native.Mathlib.Omega.{arith}
+-- `run_start`: the first edge that the search finds begins the run.
+use Rattle.std.proofs.Common.{◌≡◌, ◌∙◌, ◌<◌, ◌≤◌, arith, rules, tests}
+use Rattle.std.proofs.lemmas.Iterator.{serves_from_Range, first_from_Range}
+use Rattle.image.specs.Image.{SOURCES, words_job, word, first_edge}
+use Rattle.image.proofs.ImageLaws.{edges_read}
+use Rattle.image.proofs.Runs.{first_few}
+use Rattle.decoding.proofs.RunLaws.{run_found}
 use Rattle.decoding.proofs.decode.run_start.Goals as goal
 
-pub loop-e-init : goal.loop-e-init
-loop-e-init c =
-    let w = edges_read _ c.args.m.now c.requires.denotes c.word-edges.result c.word-edges.ensures.0 in
-    (w.1, w.0, c.requires.from_bound)
-
-pub returns-then-s-word : goal.returns-then-s-word
-returns-then-s-word c =
-    let l = c.loop-e in
-    let r = source_read _ c.args.m.now c.requires.denotes l.e (omega arith) c.word.result c.word.ensures.0 in
-    (run_here (job_of c.args.m.now) c.requires.denotes.is_job c.args.s l.e l.invariant.2 (omega arith), omega arith)
-
-pub loop-e-preserved : goal.loop-e-preserved
-loop-e-preserved c =
-    let l = c.loop-e in
-    let r = source_read _ c.args.m.now c.requires.denotes l.e (omega arith) c.word.result c.word.ensures.0 in
-    (l.invariant.0, l.invariant.1, run_later (job_of c.args.m.now) c.requires.denotes.is_job c.args.s l.e (omega arith) (omega arith))
+pub find-requires-clause-callable : goal.find-requires-clause-callable
+find-requires-clause-callable c =
+    let (is, few) = edges_read _ c.args.m.now c.requires.denotes c.word-edges.result c.word-edges.ensures.0 in
+    serves_from_Range (λ x q k. search (rules, tests)) (λ x above below. search (rules, tests))
 
 pub returns : goal.returns
 returns c =
-    let l = c.loop-e in
-    let f = first_few (job_of c.args.m.now) c.requires.denotes.is_job c.args.s in
-    (omega arith, omega arith)
-
-pub word-edges-requires : goal.word-edges-requires
-word-edges-requires c = (c.requires.denotes.long, omega arith)
-
-pub overflow_add-e : goal.overflow_add-e
-overflow_add-e c = omega arith
-
-pub word-requires : goal.word-requires
-word-requires c = (c.requires.denotes.long, omega arith)
-
-pub overflow_add-e-in-loop-e : goal.overflow_add-e-in-loop-e
-overflow_add-e-in-loop-e c = omega arith
-
-pub loop-e-smaller : goal.loop-e-smaller
-loop-e-smaller c = omega arith
+    let m = c.args.m.now in
+    let s = c.args.s in
+    let job = c.requires.denotes.is_job in
+    let (is, few) = edges_read _ m c.requires.denotes c.word-edges.result c.word-edges.ensures.0 in
+    let first = first_from_Range _ _ _ c.find.result (λ e. s ≤ word m SOURCES e) (λ e. word m SOURCES e < s) c.find.ensures.ran
+    (λ x q k. search (rules, tests)) (λ x q k. search (rules, tests)) in
+    let found : c.unwrap_or.result ≡ first_edge (words_job m).structure s =
+    c.unwrap_or.ensures ∙ run_found m job c.args.from c.word-edges.result s c.requires.from_bound is c.find.result first in
+    (found, omega (arith, first_few (words_job m) job s))

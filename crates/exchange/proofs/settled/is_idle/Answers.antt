@@ -3,9 +3,10 @@ use Prim.Native.Nat.{◌≤◌}
 use mathlib.Core.Path.{◌∙◌, ap}
 use lib.ListN.{length}
 use Rattle.cells.specs.Close.{settled}
-use Rattle.image.specs.Image.{job_of}
+use Rattle.image.specs.Denoted.{job_of}
+use Rattle.image.proofs.ImageLaws.{image_job}
 use Rattle.cells.proofs.Tracked.{all_tracked}
-use Rattle.exchange.proofs.ReadyLaws.{job_of_lem, ready_small}
+use Rattle.exchange.proofs.ReadyLaws.{ready_small}
 use Rattle.exchange.proofs.SettledLaws.{settled_told}
 use native.Mathlib.Omega.{arith}
 use borrow.Author.Rules.{rules}
@@ -21,7 +22,7 @@ slice_bounds-part-end c =
 pub exchange-requires : goal.exchange-requires
 exchange-requires c =
     let same = c.copy_from_slice.ensures.after in
-    rw same (record { ready = c.requires.ready; tracked = all_tracked _ (job_of_lem c.requires.ready) _ })
+    rw same (record { ready = c.requires.ready; tracked = rw (c.all.ensures.stale, c.all.ensures.news) (all_tracked _ (image_job c.args.m.now) _) })
 
 pub returns : goal.returns
 returns c =

@@ -2,9 +2,12 @@
 use Prim.Native.Nat.{◌+◌, ◌*◌, ◌≤◌}
 use mathlib.Core.Path.{◌≡◌, sym, ◌∙◌}
 use mathlib.Core.Bool.{true}
-use borrow.Author.Tests.{not-false}
-use lib.ListN.{length}
+use lib.Dec.{lit<}
+use lib.ListN.{length, get_or}
+use Rattle.std.proofs.Common.{Some}
 use Rattle.text.specs.Field.{Text, formed}
+use Rattle.text.specs.Fields.{line_numbers}
+use Rattle.text.proofs.FieldsLaws.{line_malformed, line_formed, line_number}
 use Rattle.job.specs.Layout.{states, edges, subformulas, nodes, length_of}
 use Rattle.job.specs.Questions.{in_ranges}
 use Rattle.job.specs.Read.{read_told, header}
@@ -13,74 +16,71 @@ use Rattle.layout.proofs.head.head.Goals as goal
 use Rattle.layout.proofs.head.head.Goals.{After-are_in_ranges}
 
 pub returns-then-text-lt21 : goal.returns-then-text-lt21
-returns-then-text-lt21 c = c.refuse.ensures ∙ sym (head_short _ c.if-text-lt21.true)
+unfolding read_told
+returns-then-text-lt21 c = sym (head_short _ c.if-text-lt21.true)
 
-pub returns-then-not-is_formed : goal.returns-then-not-is_formed
-returns-then-not-is_formed c =
-    c.refuse-then-not-is_formed.ensures
-    ∙ sym (head_malformed _ c.if-text-lt21.false (sym c.is_formed.ensures ∙ c.if-not-is_formed.true))
+pub returns-in_default : goal.returns-in_default
+unfolding read_told
+returns-in_default c =
+    sym (head_malformed _ c.if-text-lt21.false (line_malformed _ 0 4 (sym c.read_line.ensures.is ∙ c.in_default.is)))
 
-abbrev text_of : After-are_in_ranges → Text
-text_of c = c.args.text.now
+-- line 1, where the ranges are asked
+module _ (c : After-are_in_ranges) where
+  abbrev text_of : Text
+  text_of = c.args.text.now
 
--- the four numbers of line 1, where the ranges are asked
-ranges_asked :
-    (c : After-are_in_ranges)
-    → c.are_in_ranges.result
-    ≡ in_ranges (states (text_of c)) (edges (text_of c)) (subformulas (text_of c)) (nodes (text_of c))
-unfolding states edges subformulas nodes
-ranges_asked c =
-    c.are_in_ranges.ensures
-    ∙ simp (
-      c.number-states.ensures.0,
-      c.number-edges.ensures.0,
-      c.number-subformulas.ensures.0,
-      c.number-nodes.ensures.0,
-    )
+  line_read : line_numbers text_of 0 4 ≡ Some c.in-Some.line
+  line_read = sym c.read_line.ensures.is ∙ c.in-Some.is
 
-length_asked :
-    (c : After-are_in_ranges)
-    → 21 + 11 * c.number-states.result + 11 * c.number-edges.result
-    + 16 * c.number-subformulas.result
-    ≡ length_of (text_of c)
-unfolding length_of states edges subformulas
-length_asked c =
-    simp (
-      c.number-states.ensures.0,
-      c.number-edges.ensures.0,
-      c.number-subformulas.ensures.0,
-    )
+  states_read : get_or c.in-Some.line 0 0 ≡ states text_of
+  unfolding states
+  states_read = line_number text_of 0 4 c.in-Some.line line_read 0 (lit< tt)
 
-line_formed : (c : After-are_in_ranges) → formed (text_of c) 0 4 ≡ true
-line_formed c = sym c.is_formed.ensures ∙ c.if-not-is_formed.false
+  edges_read : get_or c.in-Some.line 1 0 ≡ edges text_of
+  unfolding edges
+  edges_read = line_number text_of 0 4 c.in-Some.line line_read 1 (lit< tt)
 
-long_enough : (c : After-are_in_ranges) → 21 ≤ length (text_of c)
-long_enough c = c.if-text-lt21.false
+  subformulas_read : get_or c.in-Some.line 2 0 ≡ subformulas text_of
+  unfolding subformulas
+  subformulas_read = line_number text_of 0 4 c.in-Some.line line_read 2 (lit< tt)
+
+  nodes_read : get_or c.in-Some.line 3 0 ≡ nodes text_of
+  unfolding nodes
+  nodes_read = line_number text_of 0 4 c.in-Some.line line_read 3 (lit< tt)
+
+  ranges_asked : in_ranges (states text_of) (edges text_of) (subformulas text_of) (nodes text_of) ≡ c.are_in_ranges.result
+  ranges_asked = sym (c.are_in_ranges.ensures ∙ simp (states_read, edges_read, subformulas_read, nodes_read))
+
+  length_asked :
+      21 + 11 * get_or c.in-Some.line 0 0 + 11 * get_or c.in-Some.line 1 0 + 16 * get_or c.in-Some.line 2 0 ≡ length_of text_of
+  unfolding length_of
+  length_asked = simp (states_read, edges_read, subformulas_read)
+
+  long_enough : 21 ≤ length text_of
+  long_enough = c.if-text-lt21.false
+
+  here_formed : formed text_of 0 4 ≡ true
+  here_formed = line_formed text_of 0 4 c.in-Some.line line_read
 
 pub returns-then-not-are_in_ranges : goal.returns-then-not-are_in_ranges
+unfolding read_told
 returns-then-not-are_in_ranges c =
-    c.refuse-then-not-are_in_ranges.ensures
-    ∙ sym
-    (head_out_of_range (text_of (goal.at.returns-then-not-are_in_ranges c).After-are_in_ranges) (long_enough (goal.at.returns-then-not-are_in_ranges c).After-are_in_ranges) (line_formed (goal.at.returns-then-not-are_in_ranges c).After-are_in_ranges) (sym (ranges_asked (goal.at.returns-then-not-are_in_ranges c).After-are_in_ranges) ∙ c.if-not-are_in_ranges.true))
+    let here = (goal.at.returns-then-not-are_in_ranges c).After-are_in_ranges in
+    sym (head_out_of_range _ (long_enough here) (here_formed here) (ranges_asked here ∙ c.if-not-are_in_ranges.true))
 
 pub returns-then-text-states : goal.returns-then-text-states
+unfolding read_told
 returns-then-text-states c =
-    c.refuse-then-text-states.ensures
-    ∙ sym
-    (head_wrong_length (text_of (goal.at.returns-then-text-states c).After-are_in_ranges) (long_enough (goal.at.returns-then-text-states c).After-are_in_ranges) (line_formed (goal.at.returns-then-text-states c).After-are_in_ranges)
-    (sym (ranges_asked (goal.at.returns-then-text-states c).After-are_in_ranges) ∙ c.if-not-are_in_ranges.false)
-    (λ e. c.if-text-states.true (e ∙ sym (length_asked (goal.at.returns-then-text-states c).After-are_in_ranges))))
+    let here = (goal.at.returns-then-text-states c).After-are_in_ranges in
+    sym
+    (head_wrong_length _ (long_enough here) (here_formed here) (ranges_asked here ∙ c.if-not-are_in_ranges.false)
+    (λ e. c.if-text-states.true (e ∙ sym (length_asked here))))
 
 pub returns : goal.returns
-unfolding read_told header states edges subformulas nodes
+unfolding read_told header
 returns c =
-    simp (
-      c.number-states.ensures.0,
-      c.number-edges.ensures.0,
-      c.number-subformulas.ensures.0,
-      c.number-nodes.ensures.0,
-    )
+    let here = (goal.at.returns c).After-are_in_ranges in
+    simp (states_read here, edges_read here, subformulas_read here, nodes_read here)
     (sym
-    (head_passes (text_of (goal.at.returns c).After-are_in_ranges) (long_enough (goal.at.returns c).After-are_in_ranges) (line_formed (goal.at.returns c).After-are_in_ranges)
-    (sym (ranges_asked (goal.at.returns c).After-are_in_ranges) ∙ c.if-not-are_in_ranges.false)
-    (c.if-text-states.false ∙ length_asked (goal.at.returns c).After-are_in_ranges)))
+    (head_passes _ (long_enough here) (here_formed here) (ranges_asked here ∙ c.if-not-are_in_ranges.false)
+    (c.if-text-states.false ∙ length_asked here)))

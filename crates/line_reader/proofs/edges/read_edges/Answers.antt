@@ -1,69 +1,37 @@
 -- `read_edges`: the edge lines passed so far are well-formed, their numbers laid, and what is kept is the pass's after so many lines.
-use mathlib.Core.Path.{sym, ◌∙◌}
-use native.Mathlib.Omega.{arith}
-use Rattle.text.specs.Field.{Text}
-use Rattle.job.specs.Leaves.{Fits}
-use Rattle.job.specs.declared.reading.Header.{Header}
-use Rattle.edge_pass.specs.EdgePass.{start}
-use Rattle.line_reader.proofs.LineLaws.{edges_none, edge_more, edges_few, edges_marks, edges_stop, edges_done}
-use borrow.Author.Rules.{rules}
+use Rattle.std.proofs.Common.{◌≡◌, ◌*◌, ◌+◌, Some, None, arith}
+use Rattle.std.proofs.lemmas.Result.{err_from_is_err_and}
+use Rattle.text.specs.Fields.{line_numbers}
+use Rattle.job.specs.declared.refusal.Refusal.TheVariants.{MalformedLine}
+use Rattle.line_reader.proofs.LineLaws.{edges_none, edges_few, edges_stop, edges_done, edge_more}
 use Rattle.line_reader.proofs.edges.read_edges.Goals as goal
-use Rattle.line_reader.proofs.edges.read_edges.Goals.{In-loop-e}
 
 pub loop-e-init : goal.loop-e-init
-unfolding start
-loop-e-init c = (search rules, edges_none _ _ c.requires.fits _ c.requires.m_len)
+loop-e-init c = edges_none _ _ c.requires _ c.told-m _ c.start-kept.ensures
 
--- what holds in the loop
-module _ (c : In-loop-e) where
-  abbrev text_of : Text
-  text_of = c.args.text.now
-
-  abbrev header_of : Header
-  header_of = c.args.h
-
-  abbrev fits_of : Fits text_of header_of
-  fits_of = c.requires.fits
-
-pub read_pair-line-requires : goal.read_pair-line-requires
-read_pair-line-requires c = let f = fits_of (goal.at.read_pair-line-requires c).In-loop-e in omega arith
-
-pub returns-in_default : goal.returns-in_default
-returns-in_default c =
+pub returns-in_err-source : goal.returns-in_err-source
+returns-in_err-source c =
+    let p = err_from_is_err_and c.from_residual.result c.from_residual.ensures.1 in
+    let h = c.args.h in
     let l = c.loop-e in
-    edges_stop (text_of (goal.at.returns-in_default c).In-loop-e) (header_of (goal.at.returns-in_default c).In-loop-e) (fits_of (goal.at.returns-in_default c).In-loop-e) c.args.m.now l.m l.order l.starts l.e (omega arith)
-    (sym c.read_pair-line.ensures ∙ c.in_default.is) l.invariant.1
+    let read : line_numbers c.args.text.now (21 + 11 * (h.states + l.e)) 2 ≡ None = grind arith in
+    let why : p.0 ≡ MalformedLine (2 + (h.states + l.e)) = grind arith in
+    rw p.1 (edges_stop c.args.text.now h c.requires c.args.m.now l.m l.kept l.e p.0 (omega arith) read why l.invariant)
 
-pub lay-requires : goal.lay-requires
-lay-requires c =
-    let f = fits_of (goal.at.lay-requires c).In-loop-e in
-    (c.loop-e.invariant.1.laid.changed.long, omega arith)
-
-pub lay-requires-in-loop-e : goal.lay-requires-in-loop-e
-lay-requires-in-loop-e c =
-    let f = fits_of (goal.at.lay-requires-in-loop-e c).In-loop-e in
-    (c.lay.ensures.1, omega arith)
-
-pub order_after-order-requires : goal.order_after-order-requires
-order_after-order-requires c =
-    let f = fits_of (goal.at.order_after-order-requires c).In-loop-e in
-    let (lines, right) = edges_few (text_of (goal.at.order_after-order-requires c).In-loop-e) (header_of (goal.at.order_after-order-requires c).In-loop-e) (fits_of (goal.at.order_after-order-requires c).In-loop-e) c.args.m.now _ _ _ _ c.loop-e.invariant.1 in
+pub after-requires : goal.after-requires
+after-requires c =
+    let few = edges_few c.args.text.now c.args.h c.requires c.args.m.now _ _ _ c.loop-e.invariant in
     (omega arith, omega arith)
-
-pub mark_start-requires : goal.mark_start-requires
-mark_start-requires c =
-    edges_marks (text_of (goal.at.mark_start-requires c).In-loop-e) (header_of (goal.at.mark_start-requires c).In-loop-e) (fits_of (goal.at.mark_start-requires c).In-loop-e) c.args.m.now _ _ _ _ c.loop-e.invariant.1
 
 pub loop-e-preserved : goal.loop-e-preserved
 loop-e-preserved c =
-    let l = c.loop-e in (
-      search rules,
-      edge_more (text_of (goal.at.loop-e-preserved c).In-loop-e) (header_of (goal.at.loop-e-preserved c).In-loop-e) (fits_of (goal.at.loop-e-preserved c).In-loop-e) c.args.m.now l.m _ _ l.e c.in-Numbers.source c.in-Numbers.target
-          l.order _ l.starts _ (omega arith) (sym c.read_pair-line.ensures ∙ c.in-Numbers.is) c.lay.ensures.0
-          c.lay-in-loop-e.ensures.0 c.order_after-order.ensures c.mark_start.ensures l.invariant.1,
-    )
+    let h = c.args.h in
+    let l = c.loop-e in
+    let read : line_numbers c.args.text.now (21 + 11 * (h.states + l.e)) 2 ≡ Some c.in_ok-source.field-0 = grind arith in
+    edge_more c.args.text.now h c.requires c.args.m.now l.m _ _ c.in_ok-source.field-0 l.e l.kept _ (omega arith) read
+    c.set_word.ensures.modulo c.set_word-in-loop-e.ensures.modulo c.after.ensures l.invariant
 
 pub returns : goal.returns
 returns c =
     let l = c.loop-e in
-    edges_done c.args.text.now c.args.h c.requires.fits c.args.m.now l.m l.order l.starts l.e (omega arith) l.invariant.1
+    edges_done c.args.text.now c.args.h c.requires c.args.m.now l.m l.kept l.e (omega arith) l.invariant

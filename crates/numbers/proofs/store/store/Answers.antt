@@ -1,34 +1,16 @@
--- `store`: after i turns the first i numbers are stored.
-use mathlib.Core.Path.{ap, ◌∙◌}
-use native.Mathlib.Omega.{arith}
-use lib.ListN.{length, take}
-use Rattle.numbers.proofs.StoredLaws.{stored_length, stored_none, stored_more, stored_all}
-use borrow.Author.Rules.{rules}
+-- `store`: the call's own numbers stand behind number and line.
+use Rattle.std.proofs.Common.{ℕ, List, ◌++◌, ◌≡◌, ap, subst, ◌∙◌, length, rules}
+use Rattle.numbers.specs.Stored.{stored, stored_from}
+use Rattle.numbers.proofs.StoredLaws.{behind_front}
 use Rattle.numbers.proofs.store.store.Goals as goal
 
-pub loop-i-init : goal.loop-i-init
-loop-i-init c = (
-  search rules,
-  search rules,
-  stored_none c.args.out.now c.args.numbers.now,
-)
-
-pub loop-i-preserved : goal.loop-i-preserved
-loop-i-preserved c =
-    let a = c.args in
-    let now = c.loop-i in (
-      search rules,
-      search rules,
-      stored_more a.out.now a.numbers.now now.out c.put.new.out now.i (omega arith) now.invariant.2
-          c.put.ensures,
-    )
-
-pub shape_of-out : goal.shape_of-out
-shape_of-out c =
-    let a = c.args in
-    ap length c.loop-i.invariant.2 ∙ stored_length a.out.now (take c.loop-i.i a.numbers.now)
-
 pub returns : goal.returns
-returns c =
-    let a = c.args in
-    c.loop-i.invariant.2 ∙ stored_all a.out.now a.numbers.now c.loop-i.i (omega arith)
+returns g c =
+    let out = c.args.out.now in
+    let front = c.numbers_of-own.result.0 in
+    let own = c.numbers_of-own.result.1 in
+    let two : length front ≡ 2 = search rules in
+    c.put_all-2.ensures
+    ∙ ap (λ (l : List ℕ). stored_from 2 l own) c.put_all.ensures
+    ∙ subst (λ n. stored_from n (stored_from 0 out front) own ≡ stored out (front ++ own)) two (behind_front front out own)
+    ∙ ap (stored out) c.numbers_of-own.ensures

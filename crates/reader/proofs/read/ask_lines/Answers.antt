@@ -1,29 +1,38 @@
 -- `ask_lines`: each return is the first of questions 5 to 8 that is answered no, or says that there is none.
-use mathlib.Core.Path.{sym, ◌∙◌}
+use Rattle.std.proofs.Common.{ℕ, Option, unwrap_or, ◌≡◌, refl, sym, ap, ◌∙◌, arith}
 use Rattle.job.specs.Read.{read_told}
+use Rattle.edge_pass.specs.EdgePass.{terminal_state}
 use Rattle.reader.proofs.ReaderLaws.{asked_5, asked_6, asked_7, asked_8, asked_none}
 use Rattle.reader.proofs.read.ask_lines.Goals as goal
+use Rattle.reader.proofs.read.ask_lines.Goals.{In_default}
 
 pub returns-then-s-h : goal.returns-then-s-h
-returns-then-s-h c = c.refuse.ensures ∙ sym (asked_5 _ _ _ _ c.if-s-h.true)
+unfolding read_told
+returns-then-s-h c = sym (asked_5 _ _ _ _ c.if-s-h.true)
 
 pub returns-then-order : goal.returns-then-order
-returns-then-order c =
-    c.refuse-then-order.ensures ∙ sym (asked_6 _ _ _ _ c.if-s-h.false c.if-order.true)
+unfolding read_told
+returns-then-order c = sym (asked_6 _ _ _ _ c.if-s-h.false c.if-order.true)
 
-pub returns-then-terminal-order : goal.returns-then-terminal-order
-returns-then-terminal-order c =
-    c.refuse-then-terminal-order.ensures
-    ∙ sym (asked_7 _ _ _ _ c.if-s-h.false c.if-order.false _ c.terminal_state-terminal.ensures.0 c.if-terminal-order.true)
+pub returns-in-Some : goal.returns-in-Some
+unfolding read_told
+returns-in-Some c =
+    let found = sym (ap (λ (o : Option ℕ). unwrap_or o c.args.kept.order.states) c.in-Some.is) ∙ c.terminal_state.ensures.lowest in
+    let below = rw c.in-Some.is at c.terminal_state.ensures.below in
+    sym (asked_7 _ _ _ _ c.if-s-h.false c.if-order.false _ found (λ e. omega arith))
+
+-- where every state has an edge out
+none_found : (c : In_default) → c.args.kept.order.states ≡ terminal_state c.args.kept.starts c.args.kept.order.states
+none_found c = sym (ap (λ (o : Option ℕ). unwrap_or o c.args.kept.order.states) c.in_default.is) ∙ c.terminal_state.ensures.lowest
 
 pub returns-then-k-h : goal.returns-then-k-h
+unfolding read_told
 returns-then-k-h c =
-    c.refuse-then-k-h.ensures
-    ∙ sym
-    (asked_8 _ _ _ _ c.if-s-h.false c.if-order.false _ c.terminal_state-terminal.ensures.0 c.if-terminal-order.false c.if-k-h.true)
+    sym
+    (asked_8 _ _ _ _ c.if-s-h.false c.if-order.false _ (none_found (goal.at.returns-then-k-h c).In_default) refl c.if-k-h.true)
 
 pub returns : goal.returns
 unfolding read_told
 returns c =
     sym
-    (asked_none _ _ _ _ c.if-s-h.false c.if-order.false _ c.terminal_state-terminal.ensures.0 c.if-terminal-order.false c.if-k-h.false)
+    (asked_none _ _ _ _ c.if-s-h.false c.if-order.false _ (none_found (goal.at.returns c).In_default) refl c.if-k-h.false)

@@ -1,17 +1,7 @@
 -- `finish_table`: the rounds, and the verdict read behind them.
 use Rattle.cells.specs.Calls.{left}
-use Rattle.rounds.proofs.FinishLaws.{finished_ready, finished_told, finished_rounds}
-use native.Mathlib.Omega.{arith}
+use Rattle.rounds.proofs.FinishLaws.{finished_told, finished_rounds}
 use Rattle.rounds.proofs.finish.finish_table.Goals as goal
-
-pub run-done-requires : goal.run-done-requires
-run-done-requires c = c.requires
-
-pub owner_cell-verdict-requires : goal.owner_cell-verdict-requires
-owner_cell-verdict-requires c =
-    let after_run = finished_ready c.requires _ c.run-done.ensures.table_after in
-    let job = after_run.lent.image.is_job in
-    record { lent = after_run.lent; s_bound = (job.states.above, omega (arith, job.subformulas.above)) }
 
 pub returns : goal.returns
 unfolding left

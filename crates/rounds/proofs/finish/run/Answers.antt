@@ -1,49 +1,46 @@
 -- `run`: the rounds so far are the first of finish.
 use Prim.Native.Nat.{◌+◌}
-use mathlib.Core.Path.{◌≡◌, sym, ◌∙◌}
+use mathlib.Core.Path.{◌≡◌}
 use Rattle.cells.proofs.Tracked.{all_tracked}
-use Rattle.image.specs.Image.{job_of}
-use Rattle.exchange.proofs.ReadyLaws.{job_of_lem, ready_formed, formed_ready, ready_small}
-use Rattle.rounds.proofs.CameLaws.{Came, came_first, came_rounds, came_cells, came_formed, came_more, came_last}
+use Rattle.image.specs.Denoted.{job_of}
+use Rattle.image.proofs.ImageLaws.{image_job}
+use Rattle.exchange.proofs.ReadyLaws.{ready_formed, formed_ready, ready_small}
+use Rattle.rounds.proofs.CameLaws.{Came, came_first, came_rounds, came_cells, came_more, came_last}
 use native.Mathlib.Omega.{arith}
 use Rattle.rounds.proofs.finish.run.Goals as goal
 use Rattle.rounds.proofs.finish.run.Goals.{After-round-filled}
 
-pub loop-stale-init : goal.loop-stale-init
-loop-stale-init c = (came_first _ _ (ready_formed c.requires), all_tracked _ (job_of_lem c.requires) _)
+pub loop-pending-init : goal.loop-pending-init
+loop-pending-init c = (came_first _ _ (ready_formed c.requires), rw (c.all-pending.ensures.stale, c.all-pending.ensures.news) (all_tracked _ (image_job c.args.m.now) _))
 
 pub round-filled-requires : goal.round-filled-requires
 round-filled-requires c =
-    let l = c.loop-stale in
+    let l = c.loop-pending in
     record { ready = formed_ready c.requires _ l.invariant.0.formed; tracked = l.invariant.1 }
 
 pub overflow_add-rounds : goal.overflow_add-rounds
 overflow_add-rounds c =
-    omega (arith, came_rounds _ _ _ _ _ c.loop-stale.invariant.0, ready_small c.requires)
+    omega (arith, came_rounds _ _ _ _ _ c.loop-pending.invariant.0, ready_small c.requires)
 
 -- after a round
 module _ (c : After-round-filled) where
   -- and another is to come
   came_here :
       (c.round-filled.result ≡ 0 → ⊥)
-      → Came (job_of c.args.m.now) c.args.table.now c.round-filled.new.table (c.loop-stale.rounds + 1) (c.loop-stale.cells + c.round-filled.result)
-  came_here = came_more _ _ _ _ _ c.loop-stale.invariant.0 _ _ c.round-filled.ensures.leaves
-
-pub shape_of-table-then-filled-eq0 : goal.shape_of-table-then-filled-eq0
-shape_of-table-then-filled-eq0 c =
-    (came_formed _ _ _ _ _ c.loop-stale.invariant.0 _ _ c.round-filled.ensures.leaves).long ∙ sym c.requires.lent.long
+      → Came (job_of c.args.m.now) c.args.table.now c.round-filled.new.table (c.loop-pending.rounds + 1) (c.loop-pending.cells + c.round-filled.result)
+  came_here = came_more _ _ _ _ _ c.loop-pending.invariant.0 _ _ c.round-filled.ensures.leaves
 
 pub returns-then-filled-eq0 : goal.returns-then-filled-eq0
-returns-then-filled-eq0 c = let both = came_last _ _ _ _ _ c.loop-stale.invariant.0 _ _ c.round-filled.ensures.leaves c.if-filled-eq0.true in record { table_after = both.0; rounds_value = both.1.0; cells_value = both.1.1 }
+returns-then-filled-eq0 c = let both = came_last _ _ _ _ _ c.loop-pending.invariant.0 _ _ c.round-filled.ensures.leaves c.if-filled-eq0.true in record { table_after = both.0; rounds_value = both.1.0; cells_value = both.1.1 }
 
 pub overflow_add-cells : goal.overflow_add-cells
 overflow_add-cells c =
     omega (arith, came_cells _ _ _ _ _ (came_here (goal.at.overflow_add-cells c).After-round-filled c.if-filled-eq0.false), ready_small c.requires)
 
-pub loop-stale-smaller : goal.loop-stale-smaller
-loop-stale-smaller c =
-    omega (arith, came_rounds _ _ _ _ _ c.loop-stale.invariant.0)
+pub loop-pending-smaller : goal.loop-pending-smaller
+loop-pending-smaller c =
+    omega (arith, came_rounds _ _ _ _ _ c.loop-pending.invariant.0)
 
-pub loop-stale-preserved : goal.loop-stale-preserved
-loop-stale-preserved c =
-    (came_here (goal.at.loop-stale-preserved c).After-round-filled c.if-filled-eq0.false, c.round-filled.ensures.tracked)
+pub loop-pending-preserved : goal.loop-pending-preserved
+loop-pending-preserved c =
+    (came_here (goal.at.loop-pending-preserved c).After-round-filled c.if-filled-eq0.false, c.round-filled.ensures.tracked)

@@ -1,16 +1,15 @@
 -- `read_rule`: an expression, and only spaces behind it.
-use Rattle.rule_call.specs.Ruled.{ReadsRule}
-use Rattle.rule_call.proofs.WholeLaws.{rule_missing, rule_decided, rule_inside}
+use Rattle.rule_call.proofs.WholeLaws.{rule_missing, rule_ends, rule_goes_on}
 use Rattle.rule_call.proofs.rule.read_rule.Goals as goal
 
-pub returns-in_default : goal.returns-in_default
-unfolding ReadsRule
-returns-in_default c = rule_missing _ _ _ _ c.expression-whole.ensures c.in_default.is
+pub returns-in_err-expression : goal.returns-in_err-expression
+returns-in_err-expression c =
+    rw c.from_residual.ensures (rule_missing _ _ _ c.new-reader.ensures _ _ c.in_err-expression.ensures)
 
-pub skip_spaces-requires : goal.skip_spaces-requires
-skip_spaces-requires c = rule_inside _ _ _ _ c.expression-whole.ensures _ c.in-Found.is
+pub returns-then-is_empty : goal.returns-then-is_empty
+returns-then-is_empty c =
+    rule_ends _ _ _ c.new-reader.ensures _ _ _ c.in_ok-expression.ensures _ c.skip_spaces.ensures _ c.is_empty.ensures c.if-is_empty.true
 
-pub returns : goal.returns
-returns c =
-    let none_yet = c.requires.1 in
-    rule_decided _ _ _ _ c.expression-whole.ensures _ c.in-Found.is _ c.skip_spaces.ensures none_yet
+pub returns-else-is_empty : goal.returns-else-is_empty
+returns-else-is_empty c =
+    rule_goes_on _ _ _ c.new-reader.ensures _ _ _ c.in_ok-expression.ensures _ c.skip_spaces.ensures _ c.is_empty.ensures c.if-is_empty.false

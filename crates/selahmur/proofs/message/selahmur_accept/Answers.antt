@@ -1,12 +1,13 @@
 -- `selahmur_accept`: the numbers of the answer, and the table that `accept` leaves.
+use Rattle.calls.specs.Told.{accept_told}
 use Rattle.selahmur.proofs.AnswerLaws.{stored_told}
 use Rattle.selahmur.proofs.message.selahmur_accept.Goals as goal
 
 pub returns : goal.returns
+unfolding accept_told
 returns c =
     record {
       told = stored_told c.args.out.now
-          c.of_accept.ensures
           c.accept.ensures.told
           c.store.ensures;
       left = c.accept.ensures.left;

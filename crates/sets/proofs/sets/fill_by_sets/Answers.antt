@@ -1,23 +1,13 @@
 -- `fill_by_sets`: no empty cell, or the two sets give the values.
 use mathlib.Core.Path.{sym, ◌∙◌}
-use native.Mathlib.Omega.{arith}
 use Rattle.sets.proofs.SetLaws.{value_low, sets_filled, no_empty_filled}
+use Rattle.image.proofs.ImageLaws.{image_job}
 use Rattle.sets.proofs.sets.fill_by_sets.Goals as goal
 
 pub returns-then-not-has_empty : goal.returns-then-not-has_empty
 returns-then-not-has_empty c =
     let lent = c.requires.ready.lent in
-    no_empty_filled _ _ _ _ lent.image.is_job lent.long _ (sym c.has_empty.ensures ∙ c.if-not-has_empty.true)
-
-pub set_of-small-requires : goal.set_of-small-requires
-set_of-small-requires c =
-    let pre = c.requires in
-    record { ready = pre.ready; n_bound = (pre.n_bound.0, pre.n_bound.1, pre.n_bound.2, omega arith) }
-
-pub set_of-out-requires : goal.set_of-out-requires
-set_of-out-requires c =
-    let pre = c.requires in
-    record { ready = pre.ready; n_bound = (pre.n_bound.0, pre.n_bound.1, pre.n_bound.2, omega arith) }
+    no_empty_filled _ _ _ _ (image_job c.args.m.now) lent.long _ (sym c.has_empty.ensures ∙ c.if-not-has_empty.true)
 
 pub fill_marked-requires : goal.fill_marked-requires
 fill_marked-requires c =

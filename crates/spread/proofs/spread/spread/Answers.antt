@@ -1,24 +1,20 @@
 -- `spread`: the states of the queue before its head are told.
 use Prim.Native.Nat.{◌≤◌}
-use mathlib.Core.Path.{refl}
 use borrow.Author.Rules.{Fits-under}
 use mir.Syntax.{w64}
 use native.Mathlib.Omega.{arith}
 use Rattle.spread.proofs.Worklist.{list_start, list_room, list_over}
 use Rattle.spread.proofs.spread.spread.Goals as goal
+use Rattle.image.proofs.ImageLaws.{image_job}
 use Rattle.spread.proofs.spread.spread.Goals.{At-loop-head}
 
 pub loop-head-init : goal.loop-head-init
 loop-head-init c =
-    list_start c.requires.image.is_job c.requires.joinable.long c.start-tail.ensures
+    list_start (image_job c.args.m.now) c.requires.joinable.long c.start-tail.ensures
 
 module _ (c : At-loop-head) where
   room : c.loop-head.tail ≤ 256
-  room = list_room c.requires.image.is_job c.loop-head.invariant
-
-pub tell-tail-requires : goal.tell-tail-requires
-tell-tail-requires c =
-    record { image = c.requires.image; n_bound = (c.requires.n_bound, c.loop-head-test.true); by_index = (_, c.loop-head.invariant) }
+  room = list_room (image_job c.args.m.now) c.loop-head.invariant
 
 pub overflow_add-head : goal.overflow_add-head
 overflow_add-head c =
@@ -34,7 +30,4 @@ loop-head-preserved c = c.tell-tail.ensures _ c.loop-head.invariant
 
 pub returns : goal.returns
 returns c =
-    list_over c.requires.image.is_job c.loop-head.invariant c.requires.joinable c.loop-head-test.false
-
-pub start-tail-requires : goal.start-tail-requires
-start-tail-requires c = let pre = c.requires in record { image = pre.image; n_bound = pre.n_bound; queue_len = refl }
+    list_over (image_job c.args.m.now) c.loop-head.invariant c.requires.joinable c.loop-head-test.false

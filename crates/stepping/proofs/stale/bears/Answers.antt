@@ -15,7 +15,7 @@ pub returns-then-is_stale : goal.returns-then-is_stale
 returns-then-is_stale c = bears_own _ _ _ _ (sym c.is_stale.ensures ∙ c.if-is_stale.true)
 
 -- the column itself is not stale
-own_rested : (c : Else-is_stale) → is_stale c.args.stale.now c.args.n c.args.k ≡ false
+own_rested : (c : Else-is_stale) → is_stale c.args.pending.now.stale c.args.n c.args.k ≡ false
 own_rested c = sym c.is_stale.ensures ∙ c.if-is_stale.false
 
 pub is_stale-requires-in-Not : goal.is_stale-requires-in-Not
@@ -39,13 +39,13 @@ pub asks_stale-requires : goal.asks_stale-requires
 unfolding InRange
 asks_stale-requires c =
     let pre = c.requires in
-    (pre.0, asks_up _ 32 c.in-Sets.start pre.1 (rw c.in-Sets.is at pre.2).0)
+    (pre.0, asks_up _ 32 c.in-Sets.g.start pre.1 (rw c.in-Sets.is at pre.2).0)
 
 pub asks_stale-requires-in-Sets : goal.asks_stale-requires-in-Sets
 unfolding InRange
 asks_stale-requires-in-Sets c =
     let pre = c.requires in
-    (pre.0, asks_up _ 32 c.in-Sets.grow pre.1 (rw c.in-Sets.is at pre.2).1)
+    (pre.0, asks_up _ 32 c.in-Sets.g.grow pre.1 (rw c.in-Sets.is at pre.2).1)
 
 pub returns-in-Atom : goal.returns-in-Atom
 returns-in-Atom c = bears_none _ _ _ _ (own_rested (goal.at.returns-in-Atom c).Else-is_stale) (ap operands c.in-Atom.is)

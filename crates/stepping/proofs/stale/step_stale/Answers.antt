@@ -1,10 +1,9 @@
 -- `step_stale`: the columns passed so far are worked.
 use Prim.Native.Nat.{◌<◌}
-use mathlib.Core.Path.{sym, ◌∙◌}
 use borrow.Author.Rules.{rules}
 use native.Mathlib.Omega.{arith}
 use Rattle.job.specs.Job.{subformula_count}
-use Rattle.image.specs.Image.{job_of}
+use Rattle.image.specs.Denoted.{job_of}
 use Rattle.stepping.specs.Stale.{Resting}
 use Rattle.stepping.proofs.WorkedLaws.{worked_none, node_small, column_next, worked_more, worked_few, worked_over}
 use Rattle.stepping.proofs.stale.step_stale.Goals as goal
@@ -12,13 +11,11 @@ use Rattle.stepping.proofs.stale.step_stale.Goals.{In-loop-k, Start}
 
 resting :
     (c : Start)
-    → Resting c.args.m.now c.args.table.now c.args.n c.args.stale.now c.args.news.now
+    → Resting c.args.m.now c.args.table.now c.args.n c.args.pending.now
 resting c =
     record {
       ready = c.requires.ready;
       node_in = c.requires.n_bound;
-      stale_long = c.requires.stale_len.0;
-      news_long = c.requires.stale_len.1;
       rested = c.requires.rested;
     }
 
@@ -43,17 +40,11 @@ pub loop-k-preserved : goal.loop-k-preserved
 loop-k-preserved c =
     (search rules, worked_more (resting (goal.at.loop-k-preserved c).Start) c.loop-k.invariant.1 (k_in (goal.at.loop-k-preserved c).In-loop-k) c.work_column-count.ensures)
 
-pub clear_row-requires : goal.clear_row-requires
-clear_row-requires c =
-    let w = resting (goal.at.clear_row-requires c).Start in
-    (node_small w, c.loop-k.invariant.1.stale_long ∙ w.stale_long)
-
-pub shape_of-table : goal.shape_of-table
-shape_of-table c =
-    c.loop-k.invariant.1.formed.long ∙ sym (resting (goal.at.shape_of-table c).Start).ready.lent.long
+pub clear_node-requires : goal.clear_node-requires
+clear_node-requires c = node_small (resting (goal.at.clear_node-requires c).Start)
 
 pub returns : goal.returns
 returns c =
     let w = resting (goal.at.returns c).Start in
     let is = c.subformulas-k-end.ensures.0 in
-    worked_over w c.loop-k.invariant.1 (omega arith) _ c.clear_row.ensures
+    worked_over w c.loop-k.invariant.1 (omega arith) c.clear_node.ensures.stale c.clear_node.ensures.news

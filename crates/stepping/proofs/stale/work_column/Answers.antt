@@ -1,16 +1,13 @@
 -- `work_column`: left out, worked for nothing, or marked.
-use Prim.Native.Nat.{◌<◌}
 use mathlib.Core.Path.{◌≡◌, sym, ◌∙◌, ap, subst}
-use borrow.Author.Rules.{rules}
-use native.Mathlib.Omega.{arith}
 use Rattle.job.specs.Rule.{rule_of, rule_at, InRange}
 use Rattle.cells.specs.Step.{step_column}
-use Rattle.image.specs.Image.{job_of}
+use Rattle.image.specs.Denoted.{job_of}
 use Rattle.table.specs.Filling.{Leaves}
 use Rattle.stepping.proofs.ColumnLaws.{stepped}
 use Rattle.stepping.proofs.StaleLaws.{column_numbers, column_left, column_idle, column_marked}
 use Rattle.stepping.proofs.stale.work_column.Goals as goal
-use Rattle.stepping.proofs.stale.work_column.Goals.{After-rule_of-rule, After-step_column-filled, Else-filled-eq0}
+use Rattle.stepping.proofs.stale.work_column.Goals.{After-rule_of-rule, After-step_column-filled}
 
 -- the rule, as it was read
 module _ (c : After-rule_of-rule) where
@@ -20,20 +17,10 @@ module _ (c : After-rule_of-rule) where
   rule_is : c.rule_of-rule.result ≡ rule_at (job_of c.args.m.now) c.args.k
   rule_is = c.rule_of-rule.ensures ∙ ap rule_of c.subformula.ensures.0
 
-pub bears-requires : goal.bears-requires
-bears-requires c =
-    let pre = c.requires in
-    let small = column_numbers pre.resting _ pre.k_bound in (small.0, small.1, rule_in (goal.at.bears-requires c).After-rule_of-rule)
-
 pub returns-then-not-bears : goal.returns-then-not-bears
 returns-then-not-bears c =
     let pre = c.requires in
     column_left pre.resting _ pre.k_bound _ (rule_is (goal.at.returns-then-not-bears c).After-rule_of-rule) (sym c.bears.ensures ∙ c.if-not-bears.true)
-
-pub step_column-filled-requires : goal.step_column-filled-requires
-step_column-filled-requires c =
-    let pre = c.requires in
-    record { ready = pre.resting.ready; n_bound = (pre.resting.node_in, pre.k_bound, rule_in (goal.at.step_column-filled-requires c).After-rule_of-rule) }
 
 -- the column is stepped
 stepped_here :
@@ -49,23 +36,14 @@ returns-then-filled-eq0 c =
     column_idle pre.resting _ pre.k_bound _ c.step_column-filled.result (stepped_here (goal.at.returns-then-filled-eq0 c).After-step_column-filled) c.if-filled-eq0.true
 
 -- cells were filled: where the marks go
-module _ (c : Else-filled-eq0) where
-  small : (c.args.n < 8) × (c.args.k < 32)
-  small = column_numbers c.requires.resting _ c.requires.k_bound
+pub mark_stale-requires : goal.mark_stale-requires
+mark_stale-requires c = column_numbers c.requires.resting _ c.requires.k_bound
 
-pub overflow_mul-stale : goal.overflow_mul-stale
-overflow_mul-stale c = let s = small (goal.at.overflow_mul-stale c).Else-filled-eq0 in search (rules, s)
-
-pub overflow_add-stale : goal.overflow_add-stale
-overflow_add-stale c = let s = small (goal.at.overflow_add-stale c).Else-filled-eq0 in search (rules, s)
-
-pub bounds-stale-n : goal.bounds-stale-n
-bounds-stale-n c = let s = small (goal.at.bounds-stale-n c).Else-filled-eq0 in omega arith
-
-pub bounds-news-k : goal.bounds-news-k
-bounds-news-k c = (small (goal.at.bounds-news-k c).Else-filled-eq0).1
+pub tell_news-requires : goal.tell_news-requires
+tell_news-requires c = (column_numbers c.requires.resting _ c.requires.k_bound).1
 
 pub returns : goal.returns
 returns c =
     let pre = c.requires in
     column_marked pre.resting _ pre.k_bound _ c.step_column-filled.result (stepped_here (goal.at.returns c).After-step_column-filled)
+    c.mark_stale.ensures.stale c.mark_stale.ensures.news c.tell_news.ensures.stale c.tell_news.ensures.news

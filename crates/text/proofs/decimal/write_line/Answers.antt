@@ -1,13 +1,10 @@
 -- `write_line`: a number more, and byte 10 behind the last.
 use mathlib.Core.Path.{refl}
-use Rattle.law.proofs.Pieces.{written_start, written_next, written_end}
+use Rattle.law.proofs.Pieces.{written_next, written_end}
 use Rattle.text.proofs.WriteLaws.{short_at, field_of, fields_length, line_written}
 use borrow.Author.Rules.{rules}
 use native.Mathlib.Omega.{arith}
 use Rattle.text.proofs.decimal.write_line.Goals as goal
-
-pub loop-i-init : goal.loop-i-init
-loop-i-init c = written_start _ _ _ _ _
 
 pub write_field-requires : goal.write_field-requires
 write_field-requires c =

@@ -1,50 +1,28 @@
 -- `read_field`: spaces, a digit, and the columns behind it, as in the definition.
-use Prim.Native.Nat.{◌+◌}
-use mathlib.Core.Path.{◌≡◌, ◌∙◌, sym}
-use mathlib.Core.Bool.{true}
-use lib.ListN.{get_or}
-use borrow.Author.Tests.{not-false}
-use Rattle.text.specs.Field.{is_digit}
-use Rattle.text.proofs.FieldLaws.{columns_none, columns_no_digit, columns_digit}
-use native.Mathlib.Omega.{arith}
+use Rattle.std.proofs.Common.{◌≡◌, sym, ◌∙◌}
+use Rattle.text.specs.Field.{field}
+use Rattle.text.proofs.FieldLaws.{field_blank, field_no_digit, field_digit, field_short}
 use Rattle.text.proofs.field.read_field.Goals as goal
-use Rattle.text.proofs.field.read_field.Goals.{Else-not-is_digit}
+use Rattle.text.proofs.field.read_field.Goals.{After-read_digits}
 
-pub returns-then-skipped-ge5 : goal.returns-then-skipped-ge5
-returns-then-skipped-ge5 c =
-    let a = c.args in
-    let s = c.spaces-skipped in
-    sym (s.ensures.rest ∙ columns_none a.text.now (a.at + s.result) (a.at + 5) (omega (arith, s.ensures.within)))
+pub returns-in_err-first-clause-is : goal.returns-in_err-first-clause-is
+returns-in_err-first-clause-is c =
+    let blank = field_blank c.args.text.now c.args.at _ c.spaces.ensures c.in_err-first.ensures.cases in cc
 
-pub returns-then-not-is_digit : goal.returns-then-not-is_digit
-returns-then-not-is_digit c =
-    let a = c.args in
-    let s = c.spaces-skipped in
+pub returns-then-not-is_ascii_digit-clause-is : goal.returns-then-not-is_ascii_digit-clause-is
+returns-then-not-is_ascii_digit-clause-is c =
     sym
-    (s.ensures.rest
-    ∙ columns_no_digit a.text.now (a.at + s.result) (a.at + 5) (omega arith) (omega arith)
-    (s.ensures.stops (omega arith))
-    (sym c.is_digit.ensures ∙ c.if-not-is_digit.true))
+    (field_no_digit c.args.text.now c.args.at _ c.spaces.ensures _ _ c.in_ok-first.ensures.cases.0
+    (sym c.is_ascii_digit.ensures.value ∙ c.if-not-is_ascii_digit.true))
 
-digit_here :
-    (c : Else-not-is_digit)
-    → is_digit
-    (get_or c.args.text.now
-    (c.args.at + c.spaces-skipped.result)
-    0)
-    ≡ true
-digit_here c = sym c.is_digit.ensures ∙ c.if-not-is_digit.false
+read : (c : After-read_digits) → c.read_digits.result ≡ field c.args.text.now c.args.at
+read c =
+    let is = field_digit c.args.text.now c.args.at _ c.spaces.ensures _ _ c.in_ok-first.ensures.cases.0
+    (sym c.is_ascii_digit.ensures.value ∙ c.if-not-is_ascii_digit.false) in
+    cc
 
-pub digit-requires : goal.digit-requires
-digit-requires c = digit_here (goal.at.digit-requires c).Else-not-is_digit
+pub returns-clause-is : goal.returns-clause-is
+returns-clause-is c = read c
 
-pub returns : goal.returns
-returns c =
-    let a = c.args in
-    let s = c.spaces-skipped in
-    c.tail.ensures
-    ∙ rw c.digit.ensures.0
-    (sym
-    (s.ensures.rest
-    ∙ columns_digit a.text.now (a.at + s.result) (a.at + 5) (omega arith) (omega arith)
-    (s.ensures.stops (omega arith)) (digit_here (goal.at.returns c).Else-not-is_digit)))
+pub returns-clause-short : goal.returns-clause-short
+returns-clause-short c = field_short c.args.text.now c.args.at c.read_digits.result (read c)

@@ -1,0 +1,7 @@
+-- `subformulas`: the third number of line 1.
+use Rattle.image.proofs.ImageLaws.{image_denotes, subformulas_read}
+use Rattle.image.proofs.image.Image.subformulas.Goals as goal
+
+pub returns : goal.returns
+returns c =
+    subformulas_read _ c.args.self.now.words (image_denotes c.args.self.now) c.word.result c.word.ensures.0

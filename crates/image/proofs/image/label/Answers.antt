@@ -1,7 +1,0 @@
--- `label`: a word of the region of labels.
-use mathlib.Core.Path.{sym}
-use Rattle.image.proofs.ImageLaws.{label_word}
-use Rattle.image.proofs.image.label.Goals as goal
-
-pub returns : goal.returns
-returns c = sym (label_word c.args.m.now c.args.s c.requires.s_bound)

@@ -1,7 +1,0 @@
--- `source`: a word of the region of sources.
-use Rattle.image.proofs.ImageLaws.{image_denotes, source_read}
-use Rattle.image.proofs.image.source.Goals as goal
-
-pub returns : goal.returns
-returns c =
-    source_read _ c.args.m.now (image_denotes c.args.m.now c.requires.image) c.args.e c.requires.e_bound c.word.result c.word.ensures.0

@@ -1,7 +1,0 @@
--- `subformulas`: the third number of line 1.
-use Rattle.image.proofs.ImageLaws.{image_denotes, subformulas_read}
-use Rattle.image.proofs.image.subformulas.Goals as goal
-
-pub returns : goal.returns
-returns c =
-    subformulas_read _ c.args.m.now (image_denotes c.args.m.now c.requires) c.word.result c.word.ensures.0

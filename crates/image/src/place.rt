@@ -1,0 +1,9 @@
+// Where a state stands in a node's fragment.
+
+// A border state is one with no edge out of it there; an inner one has an edge.
+#[derive(Clone, Copy, Debug, PartialEq, Eq)]
+pub enum Place {
+    Outside,
+    Border,
+    Inner,
+}

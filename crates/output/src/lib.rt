@@ -1,0 +1,36 @@
+// What a program prints: the first bytes of an array. In a contract it is the list of these bytes.
+#![tactic(auto)]
+
+ghost use Rattle.std.specs.Prelude.{◌≡◌, ◌≤◌, ℕ, List, length, take};
+
+use std::marker::Model;
+
+#[derive(Drop)]
+pub struct Output<const N: usize> {
+    bytes: [u8; N],
+    length: usize,
+}
+
+impl<const N: usize> Model for Output<N> {
+    ghost Value = { List ℕ };
+
+    ghost view = { λ o. take o.length o.bytes };
+
+    ghost invariant = { λ o. o.length ≤ N };
+}
+
+impl<const N: usize> Output<N> {
+    // The first `length` bytes.
+    pub fn new(bytes: [u8; N], length: usize) -> Self
+        requires { length ≤ N }
+        ensures { result ≡ take length bytes.entry }
+    {
+        Output { bytes, length }
+    }
+
+    pub fn as_slice(&self) -> &[u8]
+        ensures { result.now ≡ self.now }
+    {
+        &self.bytes[..self.length]
+    }
+}
