@@ -5,6 +5,7 @@ ghost use Rattle.calls.specs.Told.{accept_told};
 
 use crate::offer::Message;
 use decoding::read::read_image;
+use image::space::Space;
 use job::refusal::Refusal;
 use questions::ask_accept;
 use table::cell::put;
@@ -26,7 +27,8 @@ pub fn accept(
         subformula,
         value,
     } = message;
-    let m = read_image(text)?;
+    let mut space = Space::new();
+    let m = read_image(text, &mut space)?;
     ask_accept(&m, table, node, state, subformula, value)?;
     Ok(put(&m, table, node, state, subformula, value))
 }

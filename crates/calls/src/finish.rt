@@ -6,6 +6,7 @@ ghost use Rattle.cells.specs.Calls.{Call, answer, after};
 ghost use Rattle.calls.specs.Told.{finish_told, finish_rounds};
 
 use decoding::read::read_image;
+use image::space::Space;
 use job::refusal::Refusal;
 use questions::ask_table;
 use rounds::finish::{Outcome, finish_table};
@@ -16,7 +17,8 @@ pub fn finish(text: &[u8], table: &mut [u8]) -> Result<Outcome, Refusal>
     ensures left { table.new ≡ after Call.finish text.now table.old }
     ensures bounded { finish_rounds result ≤ empty_cells (job_in text.now) table.old + 1 }
 {
-    let m = read_image(text)?;
+    let mut space = Space::new();
+    let m = read_image(text, &mut space)?;
     ask_table(&m, table)?;
     Ok(finish_table(&m, table))
 }

@@ -4,6 +4,7 @@ ghost use Rattle.cells.specs.Calls.{Call, answer, after};
 ghost use Rattle.calls.specs.Told.{look_told};
 
 use decoding::read::read_image;
+use image::space::Space;
 use job::refusal::Refusal;
 use questions::{ask_look, node_read};
 use table::cell::cell;
@@ -19,7 +20,8 @@ pub fn look(
     ensures told { look_told result ≡ answer (Call.look node state subformula) text.now table.now }
     ensures left { table.now ≡ after (Call.look node state subformula) text.now table.now }
 {
-    let m = read_image(text)?;
+    let mut space = Space::new();
+    let m = read_image(text, &mut space)?;
     ask_look(&m, table, node, state, subformula)?;
     let read = node_read(&m, node, state);
     Ok(cell(&m, table, read, state, subformula))

@@ -4,6 +4,7 @@ ghost use Rattle.cells.specs.Calls.{Call, answer, after};
 ghost use Rattle.calls.specs.Told.{offer_told};
 
 use decoding::read::read_image;
+use image::space::Space;
 use job::refusal::Refusal;
 use questions::ask_offer;
 use table::cell::owner_cell;
@@ -21,7 +22,8 @@ pub fn offer(text: &[u8], table: &[u8], state: usize, subformula: usize) -> Resu
     ensures told { offer_told result ≡ answer (Call.offer state subformula) text.now table.now }
     ensures left { table.now ≡ after (Call.offer state subformula) text.now table.now }
 {
-    let m = read_image(text)?;
+    let mut space = Space::new();
+    let m = read_image(text, &mut space)?;
     ask_offer(&m, table, state, subformula)?;
     Ok(Message {
         state,

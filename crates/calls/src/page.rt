@@ -5,6 +5,7 @@ ghost use Rattle.page_text.specs.PageCall.{page_buffer};
 ghost use Rattle.calls.specs.Told.{page_told};
 
 use decoding::read::read_image;
+use image::space::Space;
 use job::refusal::Refusal;
 use page_writer::write_page;
 use questions::ask_page;
@@ -16,7 +17,8 @@ pub fn page(text: &[u8], table: &[u8], node: usize, buffer: &mut [u8]) -> Result
     ensures left { table.now ≡ after (Call.page node (length buffer.old)) text.now table.now }
     ensures written { buffer.new ≡ page_buffer text.now table.now node buffer.old }
 {
-    let m = read_image(text)?;
+    let mut space = Space::new();
+    let m = read_image(text, &mut space)?;
     ask_page(&m, table, node, buffer.len())?;
     write_page(&m, table, node, buffer);
     Ok(())

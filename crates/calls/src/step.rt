@@ -4,6 +4,7 @@ ghost use Rattle.cells.specs.Calls.{Call, answer, after};
 ghost use Rattle.calls.specs.Told.{step_told};
 
 use decoding::read::read_image;
+use image::space::Space;
 use job::refusal::Refusal;
 use questions::ask_step;
 use stepping::node::step_node;
@@ -13,7 +14,8 @@ pub fn step(text: &[u8], table: &mut [u8], node: usize) -> Result<usize, Refusal
     ensures told { step_told result ≡ answer (Call.step node) text.now table.old }
     ensures left { table.new ≡ after (Call.step node) text.now table.old }
 {
-    let m = read_image(text)?;
+    let mut space = Space::new();
+    let m = read_image(text, &mut space)?;
     ask_step(&m, table, node)?;
     Ok(step_node(&m, table, node))
 }

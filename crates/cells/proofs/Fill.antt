@@ -103,6 +103,17 @@ module _ (J : Job) (new : ℕ → ℕ → ℕ → ℕ) (t : Table) where
   fill_cell_left n s k b c two =
       fill_left (index J n s k) (rw (node_of_index J n s k b c, state_of_index J n s k b c, subformula_of_index J n s k c) two)
 
+-- What holds at each empty cell of a fragment.
+abbrev pub AtEmpty : Job → Table → (ℕ → ℕ → ℕ → Type 0) → Type 0
+AtEmpty J t P =
+    (n s k : ℕ)
+    → n < J.nodes
+    → s < size J
+    → k < subformula_count J
+    → cell J t n s k ≡ 2
+    → in_fragment J n s ≡ true
+    → P n s k
+
 -- Only the new values at empty cells of fragments matter.
 module _ (J : Job) (new other : ℕ → ℕ → ℕ → ℕ) (t : Table) where
   pub fill_same :
@@ -122,16 +133,7 @@ module _ (J : Job) (new other : ℕ → ℕ → ℕ → ℕ) (t : Table) where
       (λ o. fill_outside J new t i o ∙ sym (fill_outside J other t i o)))
       (λ f. fill_filled J new t i f ∙ sym (fill_filled J other t i f)))
 
-  pub fill_same_cells :
-      length t ≡ table_length J
-      → ((n s k : ℕ)
-      → n < J.nodes
-      → s < size J
-      → k < subformula_count J
-      → cell J t n s k ≡ 2
-      → in_fragment J n s ≡ true
-      → new n s k ≡ other n s k)
-      → fill J new t ≡ fill J other t
+  pub fill_same_cells : length t ≡ table_length J → AtEmpty J t (λ n s k. new n s k ≡ other n s k) → fill J new t ≡ fill J other t
   unfolding inside
   fill_same_cells long same =
       fill_same
@@ -157,16 +159,7 @@ module _ (J : Job) (new : ℕ → ℕ → ℕ → ℕ) (t : Table) where
       → fill J new t ≡ t
   fill_idle idle = fill_same J new (λ n s k. 2) t idle ∙ fill_none J t
 
-  pub fill_idle_cells :
-      length t ≡ table_length J
-      → ((n s k : ℕ)
-      → n < J.nodes
-      → s < size J
-      → k < subformula_count J
-      → cell J t n s k ≡ 2
-      → in_fragment J n s ≡ true
-      → new n s k ≡ 2)
-      → fill J new t ≡ t
+  pub fill_idle_cells : length t ≡ table_length J → AtEmpty J t (λ n s k. new n s k ≡ 2) → fill J new t ≡ t
   fill_idle_cells long idle = fill_same_cells J new (λ n s k. 2) t long idle ∙ fill_none J t
 
   pub idle_new :

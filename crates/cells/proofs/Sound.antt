@@ -2,7 +2,7 @@
 -- copying between nodes, and a true message keep it so. Assumes nothing.
 use Prim.Native.Nat.{ℕ, zero, suc, ◌<◌, ◌≤◌}
 use mathlib.Core.Path.{◌≡◌}
-use mathlib.Core.Bool.{Bool, true, cond, ◌&&◌}
+use mathlib.Core.Bool.{Bool, cond, ◌&&◌}
 use native.Mathlib.Nat.{le_refl}
 use native.Mathlib.Omega.{arith}
 use lib.ListN.{length, get_or, get_or-replicate}
@@ -19,7 +19,7 @@ use Rattle.cells.specs.Table.{Table, table_length, index, cell, fresh_table, own
 use Rattle.cells.specs.Step.{column, step_column, step_up_to, step_table}
 use Rattle.cells.specs.Close.{is_temporal, accept_table, copy_table}
 use Rattle.cells.proofs.Index.{index_lt}
-use Rattle.cells.proofs.Fill.{fill_cell}
+use Rattle.cells.proofs.Fill.{AtEmpty, fill_cell}
 use Rattle.cells.proofs.Tells.{Tells, cond_tells, empty_tells}
 use Rattle.cells.proofs.RightColumn.{ReadsTruth, column_tells}
 use Rattle.cells.proofs.Formed.{Formed, fresh_table_formed, cell_low, step_column_formed, accept_table_formed, copy_table_formed}
@@ -49,13 +49,7 @@ pub fill_tells :
     (J : Job) (t : Table)
     → Sound J t
     → (new : ℕ → ℕ → ℕ → ℕ)
-    → ((n s k : ℕ)
-    → n < J.nodes
-    → s < size J
-    → k < subformula_count J
-    → cell J t n s k ≡ 2
-    → in_fragment J n s ≡ true
-    → Tells 1 (new n s k) (truth J k s))
+    → AtEmpty J t (λ n s k. Tells 1 (new n s k) (truth J k s))
     → (n s k : ℕ)
     → n < J.nodes
     → s < size J

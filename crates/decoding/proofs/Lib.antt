@@ -1,5 +1,4 @@
-pub mod LaidLaws
 pub mod RunLaws
 pub mod ChainLaws
+pub mod PlaceLaws
 pub mod FragmentLaws
-pub mod TextLaws

@@ -1,128 +1,122 @@
-// What is derived from the numbers of a text, laid region by region behind them.
-ghost use Rattle.std.specs.Prelude.{◌≡◌, ◌+◌, ◌*◌, ◌<◌, ◌≤◌};
-ghost use Rattle.job.specs.Job.{size};
-ghost use Rattle.job.specs.Written.{edge_count};
-ghost use Rattle.image.specs.Image.{IsImage, FIRST as FIRST◌, words_job, first_edge, place_of, rank, Denotes};
-ghost use Rattle.decoding.specs.Laid.{Laid, Unlaid, chain_of, Chains, Chained, Added, Fragment, Fragments};
+// What is derived from the lines of a text, laid part by part behind them.
+ghost use Rattle.std.specs.Prelude.{ℕ, ◌≡◌, ◌+◌, ◌<◌, ◌≤◌, [], get_or};
+ghost use Rattle.job.specs.Job.{size, owner};
+ghost use Rattle.job.specs.Written.{IsJob, edge_count};
+ghost use Rattle.image.specs.Lines.{lines_job};
+ghost use Rattle.image.specs.Image.{IsImage, IsFragment, Runs, Chains, Ends, Fragments, edge_from, edge_to, first_edge, place_of};
 
-use image::image::{
-    EDGES, FIRST, LAST, MEMBERS, NEXT, OWNERS, PLACES, SIZES, SOURCES, STATES, TARGETS, Words,
-    set_word, word,
-};
+use image::job_lines::{Edge, JobLines};
 use image::place::Place;
+use image::space::{Fragment, Space};
 
 // The first edge from `from` on that starts at state s or above.
-fn run_start(m: &Words, from: usize, s: usize) -> usize
-    requires denotes { Denotes (words_job m.now) m.now }
-    requires from_bound { from ≤ first_edge (words_job m.now).structure s }
-    ensures { (result ≡ first_edge (words_job m.now).structure s) × (result ≤ 2048) }
+fn run_start(lines: &JobLines, from: usize, s: usize) -> usize
+    requires is_job { IsJob (lines_job lines.now) }
+    requires from_bound { from ≤ first_edge (lines_job lines.now).structure s }
+    ensures { (result ≡ first_edge (lines_job lines.now).structure s) × (result ≤ 2048) }
 {
-    let edges = word(m, EDGES);
+    let edges = lines.header.edges;
     (from..edges)
-        .find(|&e| s <= word(m, SOURCES + e))
+        .find(|&e| s <= usize::from(lines.edges[e].source))
         .unwrap_or(edges)
 }
 
 // Where each state's run of edges begins, and behind them where the last run ends. Edges ascend by source, so one pass over the
 // edges finds them all: the search for a state's run goes on where the one before ended.
-fn lay_first(m: &mut Words)
-    requires { Denotes (words_job m.old) m.old }
-    ensures { Laid m.old m.new FIRST◌ (size (words_job m.old) + 1) (first_edge (words_job m.old).structure) }
+fn lay_first(lines: &JobLines, first: &mut [u16; 257])
+    requires { IsJob (lines_job lines.now) }
+    ensures { Runs (lines_job lines.now) (size (lines_job lines.now) + 1) first.new }
 {
-    let states = word(m, STATES);
     let mut e = 0;
-    for s in 0..states + 1 {
-        e = run_start(m, e, s);
-        set_word(m, FIRST + s, e);
+    for s in 0..lines.header.states + 1 {
+        e = run_start(lines, e, s);
+        first[s] = e as u16;
     }
 }
 
-// Which chain an edge is in: that of its source's owner and the state that it ends at.
-fn chain_of(m: &Words, e: usize) -> usize
-    requires denotes { Denotes (words_job m.now) m.now }
-    requires e_bound { e < edge_count (words_job m.now) }
-    ensures { (result ≡ chain_of (words_job m.now) e) × (result < 2048) }
+// The chain that an edge is in: its node, which is its source's owner, and the state that it ends at.
+fn chain_of(lines: &JobLines, e: usize) -> (usize, usize)
+    requires is_job { IsJob (lines_job lines.now) }
+    requires e_bound { e < edge_count (lines_job lines.now) }
+    ensures node { (result.0 ≡ owner (lines_job lines.now) (edge_from (lines_job lines.now).structure e)) × (result.0 < 8) }
+    ensures state { (result.1 ≡ edge_to (lines_job lines.now).structure e) × (result.1 < 256) }
 {
-    let node = word(m, OWNERS + word(m, SOURCES + e));
-    node * 256 + word(m, TARGETS + e)
+    let Edge { source, target } = lines.edges[e];
+    let owner = lines.states[usize::from(source)].owner;
+    (usize::from(owner), usize::from(target))
 }
 
 // The edges of each node into each state, as chains: the last of them, and for each edge the one before it.
-fn lay_chains(m: &mut Words)
-    requires denotes { Denotes (words_job m.old) m.old }
-    requires chains { Chains (words_job m.old) 0 m.old m.old }
-    ensures { Chains (words_job m.old) (edge_count (words_job m.old)) m.old m.new }
+fn lay_chains(lines: &JobLines, last: &mut [[u16; 256]; 8], next: &mut [u16; 2048])
+    requires { IsJob (lines_job lines.now) }
+    ensures { Chains (lines_job lines.now) (edge_count (lines_job lines.now)) last.new next.new }
 {
-    let edges = word(m, EDGES);
-    for e in 0..edges {
-        let last = LAST + chain_of(m, e);
-        let before = word(m, last);
-        set_word(m, NEXT + e, before);
-        set_word(m, last, e + 1);
+    *last = [[0; 256]; 8];
+    for e in 0..lines.header.edges {
+        let (node, state) = chain_of(lines, e);
+        next[e] = last[node][state];
+        last[node][state] = (e + 1) as u16;
     }
 }
 
 // A state's place in node n's fragment: its owner's own states have edges out there, the others that the node's edges end at have none.
-fn place_in(m: &Words, n: usize, s: usize) -> Place
-    requires chained { Chained (words_job m.now) m.now }
-    requires n_bound { (n < 8) × (s < size (words_job m.now)) }
-    ensures { result ≡ place_of (words_job m.now) n s }
+fn place_in(lines: &JobLines, n: usize, last: &[u16; 256], s: usize) -> Place
+    requires is_job { IsJob (lines_job lines.now) }
+    requires s_bound { s < size (lines_job lines.now) }
+    requires ends { Ends (lines_job lines.now) n last.now }
+    ensures { result ≡ place_of (lines_job lines.now) n s }
 {
-    if word(m, OWNERS + s) == n {
+    if usize::from(lines.states[s].owner) == n {
         return Place::Inner;
     }
-    if word(m, LAST + (n * 256 + s)) == 0 {
+    if last[s] == 0 {
         return Place::Outside;
     }
     Place::Border
 }
 
-// The place of state s in node n's fragment, and its entry in the list of those that are in it, which has `found` entries.
-fn lay_state(m: &mut Words, n: usize, s: usize, found: usize) -> usize
-    requires chained { Chained (words_job m.old) m.old }
-    requires n_bound { (n < 8) × (s < size (words_job m.old)) × (found ≡ rank (words_job m.old) n s) }
-    ensures { Added (words_job m.old) n s found result m.old m.new }
+// Node n's fragment: the places of all states in it, and the list of those that are in it.
+fn fragment_of(lines: &JobLines, n: usize, last: &[u16; 256]) -> Fragment
+    requires is_job { IsJob (lines_job lines.now) }
+    requires ends { Ends (lines_job lines.now) n last.now }
+    ensures { IsFragment (lines_job lines.now) n result }
 {
-    let place = place_in(m, n, s);
-    set_word(m, PLACES + (n * 256 + s), place as usize);
-    if place == Place::Outside {
-        return found;
+    let mut places = [Place::Outside; 256];
+    let mut states = [0; 256];
+    let mut size = 0;
+    for s in 0..lines.header.states {
+        let place = place_in(lines, n, last, s);
+        places[s] = place;
+        if place != Place::Outside {
+            states[size] = s as u8;
+            size += 1;
+        }
     }
-    set_word(m, MEMBERS + (n * 256 + found), s);
-    found + 1
-}
-
-// The places of all states in node n's fragment, and the list of those that are in it.
-fn lay_fragment(m: &mut Words, n: usize)
-    requires chained { Chained (words_job m.old) m.old }
-    requires n_bound { n < 8 }
-    ensures { Fragment (words_job m.old) n m.old m.new }
-{
-    let states = word(m, STATES);
-    let mut found = 0;
-    for s in 0..states {
-        found = lay_state(m, n, s, found);
-    }
-    set_word(m, SIZES + n, found);
-}
-
-fn lay_fragments(m: &mut Words)
-    requires { Chained (words_job m.old) m.old }
-    ensures { Fragments (words_job m.old) 8 m.old m.new }
-{
-    for n in 0..8 {
-        lay_fragment(m, n);
+    Fragment {
+        places,
+        size,
+        states,
     }
 }
 
-// The image of the job that the first regions denote, where the others are zeros.
-pub(crate) fn lay_derived(m: &mut Words)
-    requires denotes_2 { Denotes (words_job m.old) m.old }
-    requires unlaid { Unlaid m.old }
-    ensures image { IsImage m.new }
-    ensures denotes { words_job m.new ≡ words_job m.old }
+// The fragments of all nodes.
+fn lay_fragments(lines: &JobLines, last: &[[u16; 256]; 8], fragments: &mut [Fragment; 8])
+    requires is_job { IsJob (lines_job lines.now) }
+    requires ends { (n : ℕ) → n < 8 → Ends (lines_job lines.now) n (get_or last.now n []) }
+    ensures { Fragments (lines_job lines.now) (lines_job lines.now).nodes fragments.new }
 {
-    lay_first(m);
-    lay_chains(m);
-    lay_fragments(m);
+    for n in 0..lines.header.nodes {
+        fragments[n] = fragment_of(lines, n, &last[n]);
+    }
+}
+
+// The image of the job that the lines say.
+pub(crate) fn lay_derived(space: &mut Space)
+    requires { IsJob (lines_job space.old.lines) }
+    ensures image { IsImage space.new }
+    ensures lines { space.new.lines ≡ space.old.lines }
+{
+    lay_first(&space.lines, &mut space.first);
+    lay_chains(&space.lines, &mut space.last, &mut space.next);
+    lay_fragments(&space.lines, &space.last, &mut space.fragments);
 }

@@ -2,16 +2,16 @@
 ghost use Rattle.decoding.specs.ImageRead.{ImageRead};
 
 use crate::decode::lay_derived;
-use image::image::{Image, WORDS};
+use image::image::Image;
+use image::space::Space;
 use job::refusal::Refusal;
-use reader::read::read_numbers;
+use reader::read::read_lines;
 
-// Questions 1 to 8, and where they are answered yes the image of the text's job, laid in an array of zeros.
-pub fn read_image(text: &[u8]) -> Result<Image, Refusal>
+// Questions 1 to 8, and where they are answered yes the image of the text's job, laid in the space that is lent, whatever it held.
+pub fn read_image<'a>(text: &[u8], space: &'a mut Space) -> Result<Image<'a>, Refusal>
     ensures { ImageRead text.now result }
 {
-    let mut words = [0u16; WORDS];
-    read_numbers(text, &mut words)?;
-    lay_derived(&mut words);
-    Ok(Image::from_words(words))
+    read_lines(text, &mut space.lines)?;
+    lay_derived(space);
+    Ok(Image::new(space))
 }

@@ -1,4 +1,4 @@
-// One walk over the edge lines, for questions 6 and 7: what is kept after an edge line, as a function of what was kept before and of that line's
+// One walk over the edge lines, for document 01's questions 6 and 7: what is kept after an edge line, as a function of what was kept before and of that line's
 // two numbers alone, and what both questions are answered from when the last line is behind. Whoever reads the lines makes the walk.
 #![tactic(auto)]
 

@@ -12,7 +12,8 @@ use stepping::stale::step_stale;
 
 pub mod settled;
 
-// The steps of all nodes.
+// The steps of all nodes. What a loop fills is summed by hand, here and in the crates below: of `map(..).sum()` it was tried, and not proved, that the
+// sum fits and which table the closure leaves.
 fn steps(m: &Image, table: &mut [u8], pending: &mut Pending) -> usize
     requires { Running m.now table.old pending.old }
     ensures { Ran (job_of m.now) table.old

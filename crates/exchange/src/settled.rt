@@ -8,7 +8,7 @@ use crate::exchange;
 use image::image::Image;
 use pending::Pending;
 
-// Whether they fill nothing in a copy of the table, which itself stays.
+// Whether they fill nothing in a copy of the table, which itself stays. The copy has room for the longest table, since there is no heap.
 fn is_idle(m: &Image, table: &[u8], copy: &mut [u8]) -> bool
     requires ready { Ready m.now table.now }
     requires in_bounds { 65536 ≤ length copy.old }

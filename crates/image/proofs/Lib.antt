@@ -1,5 +1,7 @@
 pub mod Ranks
 pub mod Places
 pub mod Runs
-pub mod ImageLaws
+pub mod LinesLaws
 pub mod Made
+pub mod ImageLaws
+pub mod FragmentSlice

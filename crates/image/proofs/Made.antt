@@ -1,10 +1,10 @@
--- An image's array is well made: the struct's fact holds a proof that is truncated, since that a state has an edge out has one for each such
+-- An image's space is well made: the struct's fact holds a proof that is truncated, since that a state has an edge out has one for each such
 -- edge. The first such edge is found by a search, and every other part of the fact has one proof at most. Assumes nothing.
-use Prim.Native.Nat.{ℕ, suc, ◌≤◌}
-use mathlib.Core.Path.{◌≡◌}
+use Prim.Native.Nat.{ℕ, zero, suc, ◌≤◌}
+use mathlib.Core.Path.{◌≡◌, refl, sym, ◌∙◌, ap}
 use mathlib.Core.Bool.{Bool, true, ◌&&◌, ◌||◌, Bool-set}
-use mathlib.Core.List.{List}
-use lib.ListN.{length}
+use mathlib.Core.List.{[]}
+use lib.ListN.{length, get_or}
 use mathlib.Core.Logic.{∥∥₁_elim, inl, inr, ⊎_elim}
 use native.Mathlib.Bridge.{le_prop}
 use native.Mathlib.Nat.{ℕ_set}
@@ -20,7 +20,11 @@ use Rattle.job.specs.declared.rule.Condition.{Condition}
 use Rattle.job.specs.declared.rule.Condition.TheVariants.{Always, Holds, Fails}
 use Rattle.job.specs.declared.rule.Rule.{Rule}
 use Rattle.job.specs.declared.rule.Rule.TheVariants.{Atom, Not, And, Next, Sets}
-use Rattle.image.specs.Image.{IsImage, WORDS, FIRST, LAST, NEXT, PLACES, SIZES, MEMBERS, word, by_node, words_job, edge_from, edge_to, first_edge, last_into, place_of, place_number, fragment_size, fragment_state}
+use Rattle.image.specs.Lines.{lines_job}
+use Rattle.image.specs.Image.{IsImage, edge_from, edge_to, first_edge, last_into, place_of, fragment_size, fragment_state, fragment_at}
+use Rattle.image.specs.declared.place.Place.{Place}
+use Rattle.image.specs.declared.place.Place.TheVariants.{Outside, Border, Inner}
+use Rattle.image.specs.declared.space.Space.{Space}
 use Rattle.image.specs.declared.image.Image.{Image}
 
 abbrev less : Edge → Edge → Bool
@@ -99,23 +103,53 @@ module _ {A : Type 0} (t : ∥ A ∥₁) where
         operands = λ k l. in_range k (rule_of (subformula J.formula k)) (λ x. (f x).operands k l);
       }
 
-pub image_again : (m : List ℕ) → ∥ IsImage m ∥₁ → IsImage m
+-- a place is known by its number
+number : Place → ℕ
+number Outside = 0
+number Border = 1
+number Inner = 2
+
+numbered : ℕ → Place
+numbered zero = Outside
+numbered (suc zero) = Border
+numbered (suc (suc n)) = Inner
+
+by_number : (p : Place) → numbered (number p) ≡ p
+unfolding number numbered
+by_number Outside = refl
+by_number Border = refl
+by_number Inner = refl
+
+same_place : {A : Type 0} → ∥ A ∥₁ → (p q : Place) → (A → p ≡ q) → p ≡ q
+same_place t p q f = sym (by_number p) ∙ ap numbered (same_number t (number p) (number q) (λ a. ap number (f a))) ∙ by_number q
+
+pub image_again : (m : Space) → ∥ IsImage m ∥₁ → IsImage m
 image_again m t =
-    let J = words_job m in
+    let J = lines_job m.lines in
     record {
-      long = same_number t (length m) WORDS (λ x. x.long);
       is_job = is_job_again t J (λ x. x.is_job);
-      first_at = λ s l. same_number t (word m FIRST s) (first_edge J.structure s) (λ x. x.first_at s l);
-      last_at = λ n s a l. same_number t (word m LAST (by_node n s)) (last_into J n s (edge_count J)) (λ x. x.last_at n s a l);
-      next_at =
-          λ e l.
-          same_number t (word m NEXT e) (last_into J (owner J (edge_from J.structure e)) (edge_to J.structure e) e) (λ x. x.next_at e l);
-      place_at =
-          λ n s a l. same_number t (word m PLACES (by_node n s)) (place_number (place_of J n s)) (λ x. x.place_at n s a l);
-      size_at = λ n l. same_number t (word m SIZES n) (fragment_size J n) (λ x. x.size_at n l);
-      member_at = λ n i a l. same_number t (word m MEMBERS (by_node n i)) (fragment_state J n i) (λ x. x.member_at n i a l);
+      runs = λ s l. same_number t (get_or m.first s 0) (first_edge J.structure s) (λ x. x.runs s l);
+      chains =
+          record {
+            last_at = λ n s a l. same_number t (get_or (get_or m.last n []) s 0) (last_into J n s (edge_count J)) (λ x. x.chains.last_at n s a l);
+            next_at =
+                λ e l.
+                same_number t (get_or m.next e 0) (last_into J (owner J (edge_from J.structure e)) (edge_to J.structure e) e) (λ x. x.chains.next_at e l);
+          };
+      fragments =
+          λ n l.
+          let f = fragment_at m.fragments n in
+          record {
+            long = same_number t (length f.states) 256 (λ x. (x.fragments n l).long);
+            listed =
+                record {
+                  place_at = λ u g. same_place t (get_or f.places u Outside) (place_of J n u) (λ x. (x.fragments n l).listed.place_at u g);
+                  state_at = λ i g. same_number t (get_or f.states i 0) (fragment_state J n i) (λ x. (x.fragments n l).listed.state_at i g);
+                };
+            counted = same_number t f.size (fragment_size J n) (λ x. (x.fragments n l).counted);
+          };
     }
 
 -- the fact of an image, as the laws take it
-pub image_made : (m : Image) → IsImage m.words
-image_made m = image_again m.words m.well_made
+pub image_made : (m : Image) → IsImage m.space.now
+image_made m = image_again m.space.now m.well_made

@@ -3,10 +3,9 @@ use Prim.Native.Nat.{ℕ}
 use mathlib.Core.Path.{◌≡◌, refl, ◌∙◌, ap}
 use mathlib.Core.Bool.{Bool, true, false, cond, not, ◌&&◌}
 use denote.Enum.Bare.{sameb}
-use denote.Enum.Declared.{tag_of}
 use Rattle.job.specs.Job.{Job}
 use Rattle.cells.specs.Fragment.{in_fragment, edge_out, border, inner}
-use Rattle.image.specs.Image.{place_of, place_number}
+use Rattle.image.specs.Image.{place_of}
 use Rattle.image.specs.declared.place.Place.{Place}
 use Rattle.image.specs.contracts.place.Place.{the_type}
 use Rattle.image.specs.declared.place.Place.TheVariants.{Outside, Border, Inner}
@@ -14,12 +13,6 @@ use Rattle.image.specs.declared.place.Place.TheVariants.{Outside, Border, Inner}
 -- whether two places are the same, as `==` has it
 abbrev pub same_place : Place → Place → Bool
 same_place = sameb the_type
-
--- the number that `as` gives
-pub place_as : (p : Place) → tag_of the_type p ≡ place_number p
-place_as Outside = refl
-place_as Border = refl
-place_as Inner = refl
 
 -- each place, by whether a state is in the fragment and has an edge out there
 abbrev placed : Bool → Bool → Place

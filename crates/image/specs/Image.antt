@@ -1,85 +1,16 @@
--- The decoded job as one array of words: the numbers of line 1, then regions, each at a named offset. `words_job` is the job that such an array
--- denotes, `IsImage` says that it is well made: its first part denotes a job, and each region behind it holds what is derived from that job.
--- That decoding an accepted text gives such an array, of that text's job, is the contract of `read_image` in crate decoding. Assumes nothing.
-use Rattle.std.specs.Prelude.{ℕ, zero, suc, ◌+◌, ◌*◌, ◌<◌, ◌≤◌, ◌≡◌, Bool, cond, ◌&&◌, List, length, get_or, eqb, ltb, Option, Some, None}
+-- What is derived from a job, and what it is that a space is well made: its lines say a job, and each part behind them holds what is derived from
+-- that job. That decoding an accepted text gives such a space, of that text's job, is the contract of `read_image` in crate decoding. Assumes nothing.
+use Rattle.std.specs.Prelude.{ℕ, zero, suc, ◌<◌, ◌≡◌, Bool, cond, ◌&&◌, List, [], length, get_or, eqb, ltb, Option, Some, None}
 use Rattle.law.specs.Bounded.{first, count}
 use Rattle.law.specs.Lists.{tab}
 use Rattle.job.specs.Job.{Job, Structure, size, owner}
-use Rattle.job.specs.Formula as lines
 use Rattle.job.specs.Written.{IsJob, no_edge, edge_count}
 use Rattle.cells.specs.Fragment.{in_fragment, inner}
+use Rattle.image.specs.Lines.{lines_job}
 use Rattle.image.specs.declared.place.Place.{Place}
 use Rattle.image.specs.declared.place.Place.TheVariants.{Outside, Border, Inner}
-
--- Where each region begins.
-abbrev pub OWNERS : ℕ
-OWNERS = 4
-
-abbrev pub LABELS : ℕ
-LABELS = 260
-
-abbrev pub SOURCES : ℕ
-SOURCES = 516
-
-abbrev pub TARGETS : ℕ
-TARGETS = 2564
-
-abbrev pub KINDS : ℕ
-KINDS = 4612
-
-abbrev pub LEFTS : ℕ
-LEFTS = 4644
-
-abbrev pub RIGHTS : ℕ
-RIGHTS = 4676
-
-abbrev pub FIRST : ℕ
-FIRST = 4708
-
-abbrev pub LAST : ℕ
-LAST = 4965
-
-abbrev pub NEXT : ℕ
-NEXT = 7013
-
-abbrev pub PLACES : ℕ
-PLACES = 9061
-
-abbrev pub SIZES : ℕ
-SIZES = 11109
-
-abbrev pub MEMBERS : ℕ
-MEMBERS = 11117
-
-abbrev pub WORDS : ℕ
-WORDS = 13165
-
--- The i-th word of the region at an offset, and the word of a node and a state in a region that has 256 words for each node.
-abbrev pub word : List ℕ → ℕ → ℕ → ℕ
-word m region i = get_or m (region + i) 0
-
-abbrev pub by_node : ℕ → ℕ → ℕ
-by_node n s = n * 256 + s
-
-unfoldable pub words_job : List ℕ → Job
-words_job m =
-    record {
-      structure =
-          record {
-            labels = tab (word m LABELS) (get_or m 0 0);
-            edges = tab (λ e. record { from = word m SOURCES e; to = word m TARGETS e }) (get_or m 1 0);
-          };
-      formula =
-          tab (λ k. lines.formula (lines.parsed k (word m KINDS k) (word m LEFTS k) (word m RIGHTS k))) (get_or m 2 0);
-      nodes = get_or m 3 0;
-      owners = tab (word m OWNERS) (get_or m 0 0);
-    }
-
--- The first regions denote the job J, whatever stands behind them.
-pub record Denotes (J : Job) (m : List ℕ) : Type 0 where
-  pub long : length m ≡ WORDS
-  pub is : words_job m ≡ J
-  pub is_job : IsJob J
+use Rattle.image.specs.declared.space.Fragment.{Fragment}
+use Rattle.image.specs.declared.space.Space.{Space}
 
 -- The edge of that number.
 unfoldable pub edge_from : Structure → ℕ → ℕ
@@ -106,16 +37,11 @@ abbrev pub edge_told : ℕ → Option ℕ
 edge_told zero = None
 edge_told (suc e) = Some e
 
--- A state's place in a node's fragment, and the number by which the array holds it.
+-- A state's place in a node's fragment.
 unfoldable pub place_of : Job → ℕ → ℕ → Place
 place_of J n s = cond (inner J n s) Inner (cond (in_fragment J n s) Border Outside)
 
-abbrev pub place_number : Place → ℕ
-place_number Outside = 0
-place_number Border = 1
-place_number Inner = 2
-
--- The states of a node's fragment, ascending: how many, how many below a state, and the one of a rank.
+-- The states of a node's fragment, ascending: how many, how many below a state, the one of a rank, and all of them.
 unfoldable pub fragment_size : Job → ℕ → ℕ
 fragment_size J n = count (in_fragment J n) (size J)
 
@@ -125,21 +51,41 @@ rank J n s = count (in_fragment J n) s
 unfoldable pub fragment_state : Job → ℕ → ℕ → ℕ
 fragment_state J n i = first (λ s. in_fragment J n s && eqb (rank J n s) i) (size J)
 
-pub record IsImage (m : List ℕ) : Type 0 where
-  pub long : length m ≡ WORDS
-  pub is_job : IsJob (words_job m)
-  -- by state: its first edge; one more entry closes the last state's run
-  pub first_at : (s : ℕ) → s ≤ size (words_job m) → word m FIRST s ≡ first_edge (words_job m).structure s
-  -- by node and state: the last of the node's edges into it; by edge: the one before it of the same node into the same state
-  pub last_at :
-      (n s : ℕ) → n < 8 → s < size (words_job m) → word m LAST (by_node n s) ≡ last_into (words_job m) n s (edge_count (words_job m))
-  pub next_at :
-      (e : ℕ)
-      → e < edge_count (words_job m)
-      → word m NEXT e
-      ≡ last_into (words_job m) (owner (words_job m) (edge_from (words_job m).structure e)) (edge_to (words_job m).structure e) e
-  pub place_at : (n s : ℕ) → n < 8 → s < size (words_job m) → word m PLACES (by_node n s) ≡ place_number (place_of (words_job m) n s)
-  -- by node: the states of its fragment
-  pub size_at : (n : ℕ) → n < 8 → word m SIZES n ≡ fragment_size (words_job m) n
-  pub member_at :
-      (n i : ℕ) → n < 8 → i < fragment_size (words_job m) n → word m MEMBERS (by_node n i) ≡ fragment_state (words_job m) n i
+unfoldable pub fragment : Job → ℕ → List ℕ
+fragment J n = tab (fragment_state J n) (fragment_size J n)
+
+-- The runs of the first n states: where each begins.
+abbrev pub Runs : Job → ℕ → List ℕ → Type 0
+Runs J n first = (s : ℕ) → s < n → get_or first s 0 ≡ first_edge J.structure s
+
+-- The ends of node n's chains after all edges, by state.
+abbrev pub Ends : Job → ℕ → List ℕ → Type 0
+Ends J n last = (s : ℕ) → s < 256 → get_or last s 0 ≡ last_into J n s (edge_count J)
+
+-- The chains of the first e edges: by node and state the last of them, and by edge the one before it.
+pub record Chains (J : Job) (e : ℕ) (last : List (List ℕ)) (next : List ℕ) : Type 0 where
+  pub last_at : (n s : ℕ) → n < 8 → s < 256 → get_or (get_or last n []) s 0 ≡ last_into J n s e
+  pub next_at : (d : ℕ) → d < e → get_or next d 0 ≡ last_into J (owner J (edge_from J.structure d)) (edge_to J.structure d) d
+
+-- The first s states have their place in node n's fragment, and the first k states of the fragment are listed.
+pub record Listed (J : Job) (n s k : ℕ) (places : List Place) (states : List ℕ) : Type 0 where
+  pub place_at : (u : ℕ) → u < s → get_or places u Outside ≡ place_of J n u
+  pub state_at : (i : ℕ) → i < k → get_or states i 0 ≡ fragment_state J n i
+
+pub record IsFragment (J : Job) (n : ℕ) (f : Fragment) : Type 0 where
+  pub long : length f.states ≡ 256
+  pub counted : f.size ≡ fragment_size J n
+  pub listed : Listed J n (size J) (fragment_size J n) f.places f.states
+
+abbrev pub fragment_at : List Fragment → ℕ → Fragment
+fragment_at fs n = get_or fs n (record { places = []; size = 0; states = [] })
+
+-- The fragments of the first nodes.
+abbrev pub Fragments : Job → ℕ → List Fragment → Type 0
+Fragments J nodes fs = (n : ℕ) → n < nodes → IsFragment J n (fragment_at fs n)
+
+pub record IsImage (m : Space) : Type 0 where
+  pub is_job : IsJob (lines_job m.lines)
+  pub runs : Runs (lines_job m.lines) (suc (size (lines_job m.lines))) m.first
+  pub chains : Chains (lines_job m.lines) (edge_count (lines_job m.lines)) m.last m.next
+  pub fragments : Fragments (lines_job m.lines) (lines_job m.lines).nodes m.fragments

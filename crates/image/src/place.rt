@@ -2,6 +2,7 @@
 
 // A border state is one with no edge out of it there; an inner one has an edge.
 #[derive(Clone, Copy, Debug, PartialEq, Eq)]
+#[repr(u8)]
 pub enum Place {
     Outside,
     Border,

@@ -6,7 +6,7 @@ ghost use Rattle.std.specs.Prelude.{◌≤◌, length, IfOk};
 use std::io;
 use std::io::Read;
 
-// How many bytes were read.
+// How many bytes were read. A loop of its own: the library's `read_to_end` wants a vector on the heap, and its `read_exact` refuses a shorter input.
 pub fn fill<R: Read>(input: &mut R, buf: &mut [u8]) -> io::Result<usize>
     ensures { IfOk result (λ n. n ≤ length buf.new) }
 {

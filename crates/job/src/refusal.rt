@@ -2,9 +2,6 @@
 ghost use Rattle.std.specs.Prelude.{◌≡◌};
 ghost use Rattle.job.specs.Refused.{number_of, line_of_refusal};
 
-use std::error::Error;
-use std::fmt;
-
 // A case about the lines of a text has the line, counted from 1.
 #[derive(Clone, Copy, Debug, PartialEq, Eq)]
 pub enum Refusal {
@@ -85,17 +82,3 @@ impl Refusal {
         }
     }
 }
-
-impl fmt::Display for Refusal {
-    fn fmt<W: fmt::Write>(&self, f: &mut fmt::Formatter<W>) -> fmt::Result {
-        let number = self.number();
-        let line = self.line();
-        if line == 0 {
-            write!(f, "refused by question {number}")
-        } else {
-            write!(f, "refused by question {number}, line {line}")
-        }
-    }
-}
-
-impl Error for Refusal {}

@@ -13,6 +13,7 @@ pub enum Condition {
 }
 
 // How the smallest set of a rule grows: over all successors or some, where a state starts in it, where it may grow, and the value that it gives.
+// A cell's value is a byte, 0, 1 or 2 for empty, wherever it stands: so it stands in the table that C lends, and in the answers.
 #[derive(Clone, Copy, Debug, PartialEq, Eq)]
 pub struct Growth {
     pub all: bool,

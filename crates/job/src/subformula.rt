@@ -1,6 +1,6 @@
-// A subformula line: kind, a and b become an enum case with the operands' numbers.
+// A subformula line: kind, a and b become an enum case with the operands' numbers. Kinds 1 to 7 are document 01's, 8 and 9 are document 02's (iii).
 ghost use Rattle.std.specs.Prelude.{◌≡◌};
-ghost use Rattle.job.specs.Formula.{atomic, unary, binary, parsed, fields};
+ghost use Rattle.job.specs.Formula.{parsed, fields};
 
 // A subformula by its kind, with the numbers of its operands.
 #[derive(Clone, Copy, Debug, PartialEq, Eq)]
@@ -16,44 +16,24 @@ pub enum Subformula {
     Ag(usize),
 }
 
-#[tactic(auto, unfolding(crate::specs::Formula::atomic))]
-fn atom(a: usize, b: usize) -> Option<Subformula>
-    ensures { result ≡ atomic a b }
-{
-    (a <= 15 && b == 0).then_some(Subformula::Atom(a))
-}
-
-// `f`, the k-th subformula, if its one operand is a smaller number and b is 0.
-#[tactic(auto, unfolding(crate::specs::Formula::unary))]
-fn one_operand(k: usize, a: usize, b: usize, f: Subformula) -> Option<Subformula>
-    ensures { result ≡ unary k a b f }
-{
-    (a < k && b == 0).then_some(f)
-}
-
-// `f`, the k-th subformula, if both its operands are smaller numbers.
-#[tactic(auto, unfolding(crate::specs::Formula::binary))]
-fn two_operands(k: usize, a: usize, b: usize, f: Subformula) -> Option<Subformula>
-    ensures { result ≡ binary k a b f }
-{
-    (a < k && b < k).then_some(f)
-}
-
-// The k-th subformula, by the numbers of its line.
-#[tactic(auto, unfolding(crate::specs::Formula::parsed))]
+// The k-th subformula, by the numbers of its line. A kind with one operand has b = 0.
+// Three numbers and no struct, since the image has kinds, left and right operands in regions of their own.
+#[tactic(auto, unfolding(crate::specs::Formula::parsed, crate::specs::Formula::atomic, crate::specs::Formula::unary, crate::specs::Formula::binary))]
 pub fn parse(k: usize, kind: usize, a: usize, b: usize) -> Option<Subformula>
     ensures { result ≡ parsed k kind a b }
 {
+    let one_operand = a < k && b == 0;
+    let two_operands = a < k && b < k;
     match kind {
-        1 => atom(a, b),
-        2 => one_operand(k, a, b, Subformula::Not(a)),
-        3 => two_operands(k, a, b, Subformula::And(a, b)),
-        4 => one_operand(k, a, b, Subformula::Ax(a)),
-        5 => one_operand(k, a, b, Subformula::Ex(a)),
-        6 => two_operands(k, a, b, Subformula::Au(a, b)),
-        7 => two_operands(k, a, b, Subformula::Eu(a, b)),
-        8 => one_operand(k, a, b, Subformula::Eg(a)),
-        9 => one_operand(k, a, b, Subformula::Ag(a)),
+        1 if a <= 15 && b == 0 => Some(Subformula::Atom(a)),
+        2 if one_operand => Some(Subformula::Not(a)),
+        3 if two_operands => Some(Subformula::And(a, b)),
+        4 if one_operand => Some(Subformula::Ax(a)),
+        5 if one_operand => Some(Subformula::Ex(a)),
+        6 if two_operands => Some(Subformula::Au(a, b)),
+        7 if two_operands => Some(Subformula::Eu(a, b)),
+        8 if one_operand => Some(Subformula::Eg(a)),
+        9 if one_operand => Some(Subformula::Ag(a)),
         _ => None,
     }
 }

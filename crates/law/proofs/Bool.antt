@@ -1,7 +1,9 @@
--- Tests as equations of a Bool: by cases, and through `not`, `&&`, `||` and `cond`. Assumes nothing.
-use mathlib.Core.Path.{◌≡◌, refl, sym, ◌∙◌}
+-- Tests as equations of a Bool: by cases, and through `not`, `&&`, `||`, `cond` and `then_some`. Assumes nothing.
+use mathlib.Core.Path.{◌≡◌, refl, sym, subst, ◌∙◌}
 use mathlib.Core.Bool.{Bool, true, false, not, cond, ◌&&◌, ◌||◌, true≢false}
 use mathlib.Core.Logic.{◌⊎◌, inl, inr}
+use Rattle.std.specs.Bool.{then_some}
+use Rattle.std.proofs.Common.{Option, Some, None}
 
 -- by cases on a test, with its outcome
 pub split {ℓ} : {A : Type ℓ} (b : Bool) → (b ≡ true → A) → (b ≡ false → A) → A
@@ -113,3 +115,9 @@ module _ {A : Type 0} where
   pub cond_is_second : (b : Bool) (x y z : A) → (x ≡ z → ⊥) → cond b x y ≡ z → b ≡ false
   cond_is_second true x y z other e = absurd (other e)
   cond_is_second false x y z other e = refl
+
+-- by cases on the test of a `then_some`
+pub then_some_cases :
+    {A : Type 0} (b : Bool) (x : A) (r : Option A) (P : Option A → Type 0) → r ≡ then_some b x → (b ≡ true → P (Some x)) → (b ≡ false → P None) → P r
+then_some_cases true x r P e t f = subst P (sym e) (t refl)
+then_some_cases false x r P e t f = subst P (sym e) (f refl)

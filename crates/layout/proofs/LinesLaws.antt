@@ -12,11 +12,15 @@ use Rattle.law.proofs.Bool.{split, not_is_true, not_is_false, and_no_right}
 use Rattle.law.proofs.Bounded.{by_order, first_le, first_found, first_next, first_passed}
 use Rattle.text.specs.Field.{Text}
 use Rattle.job.specs.Layout.{states, edges, state_at, subformula_at, fields_of, line_at}
-use Rattle.job.specs.Read.{has_line, line_start, line_length, line_of}
-use Rattle.job.proofs.LayoutLaws.{line_starts, line_has, line_none}
+use Rattle.job.specs.Read.{has_line, line_start, line_length, line_of, read_told, head_answer}
+use Rattle.job.specs.Leaves.{Fits}
+use Rattle.job.specs.declared.reading.Header.{Header}
+use Rattle.job.specs.declared.refusal.Refusal.{Refusal}
+use Rattle.job.proofs.LayoutLaws.{head_fits, line_refused, line_starts, line_has, line_none}
 use Rattle.layout.specs.Lines.{fields_in, start_of, part_of, right_after}
 use Rattle.layout.specs.declared.lines.Part.{Part}
-use Rattle.std.proofs.Common.{Some, None, true, false, unwrap_or, [], take, drop}
+use Rattle.std.specs.Result.{result_ok}
+use Rattle.std.proofs.Common.{Result, Ok, Err, Some, None, true, false, unwrap_or, [], take, drop}
 
 module _ (t : Text) (pairs l : ℕ) (same : states t + edges t ≡ pairs) where
   two : 1 + pairs ≡ 1 + states t + edges t
@@ -43,6 +47,12 @@ module _ (t : Text) (l : ℕ) where
   unfolding part_of
   part_none e = sym (simp e)
 
+  -- Line 1 is refused.
+  pub part_refused : (r : Result Header Refusal) → None ≡ result_ok r → read_told r ≡ head_answer t → None ≡ part_of t l
+  unfolding read_told
+  part_refused (Ok h) none told = cc
+  part_refused (Err why) none told = part_none (line_refused t l _ _ told)
+
   abbrev empty : Part
   empty = record { start = 0; size = 0 }
 
@@ -68,6 +78,13 @@ module _ (t : Text) (l : ℕ) where
       let both = part_or_empty in
       let here = rw is at both in
       ap₂ (λ n a. take n (drop a t)) here.1 here.0
+
+-- The numbers of line 1, where it is accepted.
+pub head_accepted : (t : Text) (h : Header) (r : Result Header Refusal) → Some h ≡ result_ok r → read_told r ≡ head_answer t → Fits t h
+head_accepted t h (Ok g) some told =
+    let same : g ≡ h = cc in
+    rw same at (head_fits t g told)
+head_accepted t h (Err why) some told = cc
 
 module _ (ok : ℕ → Bool) (n : ℕ) where
   abbrev found : ℕ

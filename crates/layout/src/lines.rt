@@ -46,9 +46,7 @@ pub fn line_part(text: &[u8], number: usize) -> Option<Part>
     ensures stands { result ≡ part_of text.now number }
     ensures inside { IfSome result (λ part. part.start + part.size ≤ length text.now) }
 {
-    let Ok(h) = head(text) else {
-        return None;
-    };
+    let h = head(text).ok()?;
     let pairs = h.states + h.edges;
     if number == 0 || 1 + pairs + h.subformulas < number {
         return None;

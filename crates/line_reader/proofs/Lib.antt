@@ -1,2 +1,1 @@
-mod WordLaws
 mod LineLaws

@@ -1,10 +1,9 @@
-// The lines behind line 1, each read once: one loop for the states, one for the edges and one for the subformulas lays the numbers of a line into the
-// array that is lent, and keeps what the questions about these lines are answered from. A line that is malformed ends its loop, and is reported.
+// The lines behind line 1, each read once: one loop for the states, one for the edges and one for the subformulas lays what a line says into the
+// array of its kind, and keeps what the questions about these lines are answered from. A line that is malformed ends its loop, and is reported.
 // They stay three loops: a function over the width that takes a closure has no generated proof, since a closure's bound may not name a const
 // parameter, and a trait with three impls is longer than they are.
 #![tactic(auto)]
 
 pub mod edges;
 pub mod formula;
-pub mod lines;
 pub mod states;

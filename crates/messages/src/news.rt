@@ -4,7 +4,7 @@ ghost use Rattle.job.specs.Job.{subformula_count};
 ghost use Rattle.cells.specs.Close.{is_temporal};
 ghost use Rattle.cells.specs.Rest.{Copied, Exchanged};
 ghost use Rattle.image.specs.Denoted.{job_of};
-ghost use Rattle.table.specs.Lent.{Lent, IsCell};
+ghost use Rattle.table.specs.Lent.{Lent, IsColumn, IsCell};
 ghost use Rattle.table.specs.Filling.{of_column};
 ghost use Rattle.messages.specs.News.{copied, PartCopied, NewsTaken, NewsCopied};
 
@@ -30,7 +30,8 @@ fn message(m: &Image, table: &[u8], n: usize, s: usize, k: usize) -> u8
 // The cells of node n and temporal subformula k.
 fn copy_column(m: &Image, table: &mut [u8], pending: &mut Pending, n: usize, k: usize) -> usize
     requires lent { Lent m.now table.old }
-    requires n_bound { (n < (job_of m.now).nodes) × (k < subformula_count (job_of m.now)) × (is_temporal (job_of m.now) k ≡ true) }
+    requires column { IsColumn (job_of m.now) n k }
+    requires temporal { is_temporal (job_of m.now) k ≡ true }
     ensures part_copied { PartCopied (job_of m.now) (of_column n k) table.old pending.old.stale
         table.new pending.new.stale result }
     ensures news { pending.new.news ≡ pending.old.news }

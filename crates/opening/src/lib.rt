@@ -1,10 +1,10 @@
 // Opening states: questions 25 and 26, put to the marks that finish takes, and what it answers of a complete table at the states that they mark.
 #![tactic(auto)]
 
-ghost use Rattle.std.specs.Prelude.{◌<◌, ◌≡◌, [], ◌∷◌, cond, is_none, unwrap_or, IfSome, length, get_or, ltb};
+ghost use Rattle.std.specs.Prelude.{◌<◌, ◌≡◌, [], ◌∷◌, cond, is_none, unwrap_or, IfSome, IfErr, length, get_or, ltb};
 ghost use Rattle.law.specs.Bounded.{any};
 ghost use Rattle.job.specs.Job.{size};
-ghost use Rattle.job.specs.Refused.{no_of};
+ghost use Rattle.job.specs.Refused.{no_of, line_of_refusal};
 ghost use Rattle.job.specs.Question.{no_number};
 ghost use Rattle.cells.proofs.Rounds.{Complete};
 ghost use Rattle.cells.specs.Opening.{are_marks, yes, says_no, lowest_no};
@@ -32,7 +32,8 @@ fn are_marks(m: &Image, marks: &[u8]) -> bool
 
 // Questions 25 and 26. Behind 25 a mark above 0 is 1.
 pub fn ask_marks(m: &Image, marks: &[u8]) -> Result<(), Refusal>
-    ensures { no_of result ≡ no_number (marks_right (job_of m.now) marks.now ∷ some_marked marks.now ∷ []) }
+    ensures first_no { no_of result ≡ no_number (marks_right (job_of m.now) marks.now ∷ some_marked marks.now ∷ []) }
+    ensures no_line { IfErr result (λ why. line_of_refusal why ≡ 0) }
 {
     if !are_marks(m, marks) {
         return Err(Refusal::Marks);
@@ -52,25 +53,14 @@ fn says_no(m: &Image, table: &[u8], marks: &[u8], s: usize) -> bool
     marks[s] == 1 && owner_cell(m, table, s, m.subformulas() - 1) == 0
 }
 
-// The lowest opening state at which the owner's cell of the whole formula is 0.
-fn lowest_no(m: &Image, table: &[u8], marks: &[u8]) -> Option<usize>
-    requires lent { Lent m.now table.now }
-    requires marks_len { length marks.now ≡ size (job_of m.now) }
-    ensures within { IfSome result (λ s. s < size (job_of m.now)) }
-    ensures lowest_value { unwrap_or result (size (job_of m.now)) ≡ lowest_no (job_of m.now) marks.now table.now }
-{
-    (0..m.states()).find(|&s| says_no(m, table, marks, s))
-}
-
 // What finish answers at the opening states: the lowest that says no, and none for yes. Where the cells are all filled, it is yes exactly where no
 // state says no.
 pub fn verdict_at(m: &Image, table: &[u8], marks: &[u8]) -> Option<usize>
     requires lent { Lent m.now table.now }
     requires marks_len { length marks.now ≡ size (job_of m.now) }
-    requires complete { Complete (job_of m.now) table.now }
     ensures within { IfSome result (λ s. s < size (job_of m.now)) }
-    ensures yes_value { cond (is_none result) 1 0 ≡ yes (job_of m.now) marks.now table.now }
     ensures lowest_value { unwrap_or result (size (job_of m.now)) ≡ lowest_no (job_of m.now) marks.now table.now }
+    ensures yes_value { Complete (job_of m.now) table.now → cond (is_none result) 1 0 ≡ yes (job_of m.now) marks.now table.now }
 {
-    lowest_no(m, table, marks)
+    (0..m.states()).find(|&s| says_no(m, table, marks, s))
 }

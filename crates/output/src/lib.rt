@@ -5,6 +5,7 @@ ghost use Rattle.std.specs.Prelude.{◌≡◌, ◌≤◌, ℕ, List, length, tak
 
 use std::marker::Model;
 
+// A length beside the array, since what is printed is written into parts of a whole array: a vector that grows would be filled first.
 #[derive(Drop)]
 pub struct Output<const N: usize> {
     bytes: [u8; N],

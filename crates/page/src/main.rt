@@ -9,6 +9,7 @@ use std::io;
 
 fn main(rt: HostRuntime) -> io::Result<()> {
     let mut argument = [0u8; 2];
+    // none is as good as an empty one
     let named = rt.arg(1, &mut argument).unwrap_or(0);
     let mut text = [0u8; 25878];
     let n = fill(&mut rt.stdin(), &mut text)?;

@@ -11,7 +11,7 @@ use layout::head::head;
 use output::Output;
 use text::decimal::write_line;
 
-// No job has so many nodes.
+// No job has so many nodes. A number, and no `None`, since the call page takes any number, as C passes it, and refuses this one.
 const NO_NODE: usize = 255;
 
 // The node that the argument names: one digit does, since no job has more than 8 nodes.

@@ -8,14 +8,14 @@ ghost use Rattle.std.proofs.lemmas.List.Edits.{sets};
 ghost use Rattle.law.specs.Lists.{tab, flatten};
 ghost use Rattle.job.specs.Job.{size};
 ghost use Rattle.image.specs.Denoted.{job_of};
-ghost use Rattle.table.specs.Lent.{Ready};
+ghost use Rattle.table.specs.Lent.{IsRow, Ready};
 ghost use Rattle.page_text.specs.Page.{two_columns, heading, cell_mark, row_cells, filled_line, page_line, page};
 
 use image::image::Image;
 use table::cell::cell_at;
 use text::decimal::{digit_column, write_field};
 
-// So many spaces.
+// So many spaces. No twin of write_two: one byte again and again, and there two that differ.
 fn write_spaces(out: &mut [u8], at: usize, count: usize)
     requires { at + count ≤ length out.old }
     ensures { out.new ≡ sets out.old at (replicate count 32) }
@@ -41,7 +41,7 @@ fn end_line(out: &mut [u8], start: usize, columns: usize)
     out[start + 79] = b'\n';
 }
 
-// The subformula numbers, two columns each.
+// The subformula numbers, two columns each. The loop's number is what is written, and no index.
 fn write_numbers(out: &mut [u8], at: usize, count: usize)
     requires { (count ≤ 32) × (at + 2 * count ≤ length out.old) }
     ensures { out.new ≡ sets out.old at (flatten (tab two_columns count)) }
@@ -76,7 +76,8 @@ fn mark(cell: u8) -> u8
 // The cells of a node at a state, two columns each. They are one run of the table.
 fn write_cells(m: &Image, table: &[u8], n: usize, s: usize, out: &mut [u8])
     requires ready { Ready m.now table.now }
-    requires n_bound { (n < (job_of m.now).nodes) × (s < size (job_of m.now)) × (80 * s + 160 ≤ length out.old) }
+    requires row { IsRow (job_of m.now) n s }
+    requires room { 80 * s + 160 ≤ length out.old }
     ensures { out.new ≡ sets out.old (80 * s + 95) (row_cells (job_of m.now) table.now n s) }
 {
     let first = cell_at(m, n, s, 0);
@@ -88,7 +89,8 @@ fn write_cells(m: &Image, table: &[u8], n: usize, s: usize, out: &mut [u8])
 // The line of a state.
 fn write_row(m: &Image, table: &[u8], n: usize, s: usize, out: &mut [u8])
     requires ready { Ready m.now table.now }
-    requires n_bound { (n < (job_of m.now).nodes) × (s < size (job_of m.now)) × (80 * s + 160 ≤ length out.old) }
+    requires row { IsRow (job_of m.now) n s }
+    requires room { 80 * s + 160 ≤ length out.old }
     ensures { out.new
         ≡ sets out.old (80 * s + 80) (page_line (job_of m.now) table.now n (suc s)) }
 {

@@ -7,7 +7,8 @@ ghost use Rattle.cells.specs.Rest.{column_flag, is_stale, FlagIs, FlagsAre};
 use std::mem;
 
 // The columns, cells of one node and one subformula, of which a cell was filled since their node was last stepped, 32 for each node, and the
-// subformulas of which a cell was filled since the last copying.
+// subformulas of which a cell was filled since the last copying. (Tried as rows, `[[bool; 32]; 8]`: the check does not tell how long a row is, so the
+// type would take an invariant, and a flat view for `FlagIs` and `FlagsAre`, to save three `n * 32 + k`.)
 #[derive(Drop)]
 pub struct Pending {
     pub stale: [bool; 256],
@@ -43,7 +44,7 @@ impl Pending {
         self.stale[n * 32 + k] = true;
     }
 
-    // Every node's column of subformula k is marked: it was closed.
+    // Every node's column of subformula k is marked: it was closed. (By `chunks_mut` over the nodes it was not proved: behind it no flag is known.)
     pub fn mark_subformula(&mut self, nodes: usize, k: usize)
         requires { (nodes ≤ 8) × (k < 32) }
         ensures stale { FlagsAre (λ n. column_flag n k) true nodes self.old.stale self.new.stale }

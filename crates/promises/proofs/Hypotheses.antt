@@ -6,7 +6,6 @@
 use Prim.Native.Nat.{ℕ}
 use Prim.Native.String.{String}
 use mathlib.Core.Path.{◌≡◌, refl, sym, ◌∙◌, ap, subst}
-use mathlib.Core.Bool.{Bool, true, false, true≢false}
 use mathlib.Core.List.{List, [], ◌∷◌, Memᴰ}
 use lib.ListN.{length, length-replicate}
 use lib.Dec.{lit≤}
@@ -18,7 +17,7 @@ use Rattle.job.specs.Answer.{accepted, refused}
 use Rattle.job.specs.Questions.{Accepted}
 use Rattle.job.proofs.Exact.{decode_is_job}
 use Rattle.cells.specs.Table.{Table, table_length}
-use Rattle.cells.specs.Calls.{Call, fresh, step, offer, accept, look, close, finish, page, answer, after}
+use Rattle.cells.specs.Calls.{Call, fresh, step, offer, accept, look, close, page, answer, after}
 use Rattle.cells.specs.Cases.{bytes, job_v, job2, job3, zeros}
 use Rattle.cells.specs.AllAlong.{ring_job, implies_job}
 use Rattle.cells.proofs.CallLaws.{fresh_accepted}
@@ -87,23 +86,7 @@ listed x is cs meant =
       meant = meant;
     }
 
--- an accept's message is the one that it names; no other call has one
-abbrev is_accept : Call → Bool
-is_accept fresh = false
-is_accept (step n) = false
-is_accept (offer s k) = false
-is_accept (accept n s k v) = true
-is_accept (look n s k) = false
-is_accept close = false
-is_accept finish = false
-is_accept (page n room) = false
-
-no_message :
-    (c : Call) (out : List Message)
-    → is_accept c ≡ false
-    → (n s k v : ℕ) → c ≡ accept n s k v → Memᴰ (record { state = s; subformula = k; value = v }) out
-no_message c out other n s k v e = absurd (true≢false (sym (ap is_accept e) ∙ other))
-
+-- an accept's message is the one that it names; that another call is no accept, `cc` finds
 accept_known :
     (out : List Message) (m a b w : ℕ)
     → Memᴰ (record { state = a; subformula = b; value = w }) out
@@ -132,9 +115,9 @@ events = played calls (start (bytes job2))
 pub events_meant : Meant (bytes job2) [] events
 unfolding printed calls of_job start events played Meant handed_out
 events_meant = (
-  is_meant refl (no_message (step 1) [] refl),
+  is_meant refl (λ n s k v e. cc),
   (
-    is_meant refl (no_message (offer 1 2) [] refl),
+    is_meant refl (λ n s k v e. cc),
     (
       is_meant refl (accept_known _ 0 1 2 1 (Memᴰ.head refl)),
       (is_meant refl (accept_known _ 0 1 2 1 (Memᴰ.head refl)), (is_refused 16 0 1 refl, (is_refused 1 1 2 refl, tt))),
@@ -178,10 +161,10 @@ ring_events = played ring_calls (start (bytes ring_job))
 pub ring_meant : Meant (bytes ring_job) [] ring_events
 unfolding printed ring_job ring_calls of_job start ring_events played Meant handed_out
 ring_meant = (
-  is_meant refl (no_message (step 0) [] refl),
+  is_meant refl (λ n s k v e. cc),
   (
-    is_meant refl (no_message (step 1) [] refl),
-    (is_meant refl (no_message close [] refl), (is_meant refl (no_message (offer 0 1) [] refl), (is_meant refl (accept_known _ 1 0 1 1 (Memᴰ.head refl)), tt))),
+    is_meant refl (λ n s k v e. cc),
+    (is_meant refl (λ n s k v e. cc), (is_meant refl (λ n s k v e. cc), (is_meant refl (accept_known _ 1 0 1 1 (Memᴰ.head refl)), tt))),
   ),
 )
 
@@ -216,10 +199,10 @@ page_events = played page_calls (start (bytes job_v))
 pub page_meant : Meant (bytes job_v) [] page_events
 unfolding printed page_calls of_job start page_events played Meant handed_out
 page_meant = (
-  is_meant refl (no_message (page 0 240) [] refl),
+  is_meant refl (λ n s k v e. cc),
   (
-    is_meant refl (no_message (step 0) [] refl),
-    (is_meant refl (no_message (page 0 240) [] refl), (is_refused 24 0 0 refl, (is_refused 11 0 0 refl, tt))),
+    is_meant refl (λ n s k v e. cc),
+    (is_meant refl (λ n s k v e. cc), (is_refused 24 0 0 refl, (is_refused 11 0 0 refl, tt))),
   ),
 )
 

@@ -2,14 +2,15 @@
 // answered no. Fresh puts its one itself.
 #![tactic(auto)]
 
-ghost use Rattle.std.specs.Prelude.{◌<◌, ◌≡◌, ◌&&◌, ◌||◌, [], ◌∷◌, ltb, eqb, IfErr};
+ghost use Rattle.std.specs.Prelude.{◌<◌, ◌≡◌, ◌&&◌, ◌||◌, [], ◌∷◌, ltb, eqb};
 ghost use Rattle.job.specs.Job.{size, subformula_count};
 ghost use Rattle.job.specs.Question.{no_number};
-ghost use Rattle.job.specs.Refused.{no_of, line_of_refusal};
+ghost use Rattle.job.specs.Refused.{no_of};
 ghost use Rattle.cells.specs.Table.{is_empty};
 ghost use Rattle.cells.specs.Questions.{numbers_below, temporal_named};
 ghost use Rattle.cells.specs.Calls.{Call, own_questions, node_read};
 ghost use Rattle.image.specs.Denoted.{job_of};
+ghost use Rattle.questions.specs.Asked.{NoLine};
 
 use closing::smallest_open;
 use exchange::settled::settled;
@@ -23,7 +24,7 @@ use table::cell::{cell, owner_cell};
 // Finish, and before their other questions all calls but fresh: 9 and 10.
 pub fn ask_table(m: &Image, table: &[u8]) -> Result<(), Refusal>
     ensures first_no { no_of result ≡ no_number (own_questions Call.finish (job_of m.now) table.now) }
-    ensures no_line { IfErr result (λ why. line_of_refusal why ≡ 0) }
+    ensures no_line { NoLine result }
 {
     if table.len() != m.nodes() * m.states() * m.subformulas() {
         return Err(Refusal::TableLength);
@@ -36,7 +37,7 @@ pub fn ask_table(m: &Image, table: &[u8]) -> Result<(), Refusal>
 
 pub fn ask_step(m: &Image, table: &[u8], node: usize) -> Result<(), Refusal>
     ensures first_no { no_of result ≡ no_number (own_questions (Call.step node) (job_of m.now) table.now) }
-    ensures no_line { IfErr result (λ why. line_of_refusal why ≡ 0) }
+    ensures no_line { NoLine result }
 {
     ask_table(m, table)?;
     if m.nodes() <= node {
@@ -55,7 +56,7 @@ fn are_in(m: &Image, s: usize, k: usize) -> bool
 // Questions 12 and 13: what a message names.
 fn ask_named(m: &Image, s: usize, k: usize) -> Result<(), Refusal>
     ensures first_no { no_of result ≡ no_number (numbers_below (job_of m.now) s k ∷ temporal_named (job_of m.now) k ∷ []) }
-    ensures no_line { IfErr result (λ why. line_of_refusal why ≡ 0) }
+    ensures no_line { NoLine result }
 {
     if !are_in(m, s, k) {
         return Err(Refusal::StateOrSubformula);
@@ -68,7 +69,7 @@ fn ask_named(m: &Image, s: usize, k: usize) -> Result<(), Refusal>
 
 pub fn ask_offer(m: &Image, table: &[u8], s: usize, k: usize) -> Result<(), Refusal>
     ensures first_no { no_of result ≡ no_number (own_questions (Call.offer s k) (job_of m.now) table.now) }
-    ensures no_line { IfErr result (λ why. line_of_refusal why ≡ 0) }
+    ensures no_line { NoLine result }
 {
     ask_table(m, table)?;
     ask_named(m, s, k)?;
@@ -94,7 +95,7 @@ pub fn ask_accept(
     v: u8,
 ) -> Result<(), Refusal>
     ensures first_no { no_of result ≡ no_number (own_questions (Call.accept n s k v) (job_of m.now) table.now) }
-    ensures no_line { IfErr result (λ why. line_of_refusal why ≡ 0) }
+    ensures no_line { NoLine result }
 {
     ask_step(m, table, n)?;
     ask_named(m, s, k)?;
@@ -110,7 +111,7 @@ pub fn ask_accept(
     Ok(())
 }
 
-// Passed to look where no node is named.
+// Passed to look where no node is named: C's callers pass a number.
 const NO_NODE: usize = 255;
 
 // Question 11 of look: whether there is such a node, or none is named.
@@ -130,7 +131,7 @@ pub fn node_read(m: &Image, n: usize, s: usize) -> usize
 
 pub fn ask_look(m: &Image, table: &[u8], n: usize, s: usize, k: usize) -> Result<(), Refusal>
     ensures first_no { no_of result ≡ no_number (own_questions (Call.look n s k) (job_of m.now) table.now) }
-    ensures no_line { IfErr result (λ why. line_of_refusal why ≡ 0) }
+    ensures no_line { NoLine result }
 {
     ask_table(m, table)?;
     if !is_node(m, n) {
@@ -147,7 +148,7 @@ pub fn ask_look(m: &Image, table: &[u8], n: usize, s: usize, k: usize) -> Result
 
 pub fn ask_close(m: &Image, table: &[u8]) -> Result<(), Refusal>
     ensures first_no { no_of result ≡ no_number (own_questions Call.close (job_of m.now) table.now) }
-    ensures no_line { IfErr result (λ why. line_of_refusal why ≡ 0) }
+    ensures no_line { NoLine result }
 {
     ask_table(m, table)?;
     if !settled(m, table) {
@@ -162,7 +163,7 @@ pub fn ask_close(m: &Image, table: &[u8]) -> Result<(), Refusal>
 // Page: those of step, and whether the buffer has room for a line for each state and one more.
 pub fn ask_page(m: &Image, table: &[u8], node: usize, room: usize) -> Result<(), Refusal>
     ensures first_no { no_of result ≡ no_number (own_questions (Call.page node room) (job_of m.now) table.now) }
-    ensures no_line { IfErr result (λ why. line_of_refusal why ≡ 0) }
+    ensures no_line { NoLine result }
 {
     ask_step(m, table, node)?;
     if room < 80 * (m.states() + 1) {

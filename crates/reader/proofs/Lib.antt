@@ -1,1 +1,2 @@
 mod ReaderLaws
+mod JobLaws

@@ -2,10 +2,9 @@
 #![tactic(auto)]
 
 ghost use Rattle.std.specs.Prelude.{◌≡◌, ◌<◌, not, ◌&&◌, ◌||◌, leb, eqb};
-ghost use Rattle.job.specs.Job.{size};
 ghost use Rattle.cells.specs.Table.{cells_right};
 ghost use Rattle.image.specs.Denoted.{job_of};
-ghost use Rattle.table.specs.Lent.{Lent};
+ghost use Rattle.table.specs.Lent.{Lent, IsRow};
 ghost use Rattle.right_cells.specs.Right.{row_right, node_right};
 
 use image::image::Image;
@@ -22,7 +21,7 @@ fn may_hold(v: u8, outside: bool) -> bool
 // Whether each cell of node n at state s holds what it may.
 fn row_right(m: &Image, table: &[u8], n: usize, s: usize) -> bool
     requires lent { Lent m.now table.now }
-    requires n_bound { (n < (job_of m.now).nodes) × (s < size (job_of m.now)) }
+    requires row { IsRow (job_of m.now) n s }
     ensures { result ≡ row_right (job_of m.now) table.now n s }
 {
     let outside = m.place(n, s) == Place::Outside;

@@ -1,7 +1,6 @@
 // Finish: rounds until one fills nothing, and the verdict that they leave.
 ghost use Rattle.std.specs.Prelude.{◌≡◌, [], ◌∷◌, ◌+◌, ◌≤◌};
 ghost use Rattle.cells.specs.Table.{empty_cells};
-ghost use Rattle.cells.specs.Finish.{finish};
 ghost use Rattle.cells.specs.Calls.{Call, told, left};
 ghost use Rattle.image.specs.Denoted.{job_of};
 ghost use Rattle.table.specs.Lent.{Ready};
@@ -11,33 +10,6 @@ use image::image::Image;
 use pending::Pending;
 use table::cell::owner_cell;
 
-// The rounds done and the cells filled.
-#[derive(Clone, Copy, Debug, PartialEq, Eq)]
-struct Rounds {
-    rounds: usize,
-    cells: usize,
-}
-
-// Rounds until one fills nothing. At first nothing is known of any column.
-fn run(m: &Image, table: &mut [u8]) -> Rounds
-    requires { Ready m.now table.old }
-    ensures table_after { table.new ≡ (finish (job_of m.now) table.old).table }
-    ensures rounds_value { result.rounds ≡ (finish (job_of m.now) table.old).rounds }
-    ensures cells_value { result.cells ≡ (finish (job_of m.now) table.old).cells }
-{
-    let mut pending = Pending::all();
-    let mut rounds = 0;
-    let mut cells = 0;
-    loop {
-        let filled = round(m, table, &mut pending);
-        rounds += 1;
-        if filled == 0 {
-            return Rounds { rounds, cells };
-        }
-        cells += filled;
-    }
-}
-
 // The owner's cell of state 0 and the whole formula, the rounds done, the last one counted, and the cells filled.
 #[derive(Clone, Copy, Debug, PartialEq, Eq)]
 pub struct Outcome {
@@ -46,18 +18,28 @@ pub struct Outcome {
     pub cells: usize,
 }
 
-// What the call finish does to a table: at most one round more than there are empty cells.
+// What the call finish does to a table: rounds until one fills nothing, at most one more than there are empty cells. At first nothing is known of any
+// column. It is a `loop`, since the round that fills nothing is counted too: a `while` would call `round` twice.
 pub fn finish_table(m: &Image, table: &mut [u8]) -> Outcome
     requires { Ready m.now table.old }
     ensures cells_value { (result.verdict ∷ result.rounds ∷ result.cells ∷ []) ≡ told Call.finish (job_of m.now) table.old }
     ensures table_after { table.new ≡ left Call.finish (job_of m.now) table.old }
     ensures rounds_bound { result.rounds ≤ empty_cells (job_of m.now) table.old + 1 }
 {
-    let done = run(m, table);
-    let verdict = owner_cell(m, table, 0, m.subformulas() - 1);
-    Outcome {
-        verdict,
-        rounds: done.rounds,
-        cells: done.cells,
+    let mut pending = Pending::all();
+    let mut rounds = 0;
+    let mut cells = 0;
+    loop {
+        let filled = round(m, table, &mut pending);
+        rounds += 1;
+        if filled == 0 {
+            let verdict = owner_cell(m, table, 0, m.subformulas() - 1);
+            return Outcome {
+                verdict,
+                rounds,
+                cells,
+            };
+        }
+        cells += filled;
     }
 }

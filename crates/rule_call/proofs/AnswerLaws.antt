@@ -1,18 +1,19 @@
 -- The answer and the buffer, question by question, by the lines that were read. Assumes nothing.
 use Prim.Native.Nat.{ℕ, ◌<◌, ◌≤◌}
-use mathlib.Core.Path.{◌≡◌, sym, ap, ◌∙◌}
+use mathlib.Core.Path.{◌≡◌, refl, sym, ap, ◌∙◌}
 use mathlib.Core.List.{List, [], ◌∷◌, map}
 use native.Mathlib.Omega.{arith}
 use lib.ListN.{length, length-map}
 use lib.Seq.{sets}
 use lib.Dec.{leb}
 use borrow.Author.Tests.{leb-true, leb-false}
-use Rattle.std.proofs.Common.{Ok, Err}
+use Rattle.std.proofs.Common.{Option, None, Ok, Err}
 use Rattle.law.proofs.Bool.{split}
 use Rattle.text.specs.Field.{Text}
 use Rattle.job.specs.Answer.{accepted, refused}
 use Rattle.job.specs.Refused.{number_of, line_of_refusal}
 use Rattle.job.specs.declared.refusal.Refusal.{Refusal}
+use Rattle.job.specs.declared.refusal.Refusal.TheVariants.{NoRule}
 use Rattle.job.specs.Formula.{fields}
 use Rattle.job.specs.declared.subformula.Subformula.{Subformula}
 use Rattle.job.proofs.Formula.{fields_short}
@@ -23,8 +24,8 @@ use Rattle.rule_text.proofs.AddLaws.{equal_self, same_line}
 use Rattle.rule_text.proofs.KeptLaws.{kept_lines, kept_many}
 use Rattle.rule_text.proofs.LinesLaws.{lines_operands}
 use Rattle.rule_text.proofs.Reading.{reading_means, means_atoms}
-use Rattle.rule_text.proofs.RuleCallLaws.{RefusedWith, rule_23, rule_ok}
-use Rattle.rule_call.specs.Ruled.{ruled_told, ShortLines, KeepsTree}
+use Rattle.rule_text.proofs.RuleCallLaws.{RefusedWith, rule_22_grammar, rule_23, rule_ok}
+use Rattle.rule_call.specs.Ruled.{ruled_told, ShortLines, KeepsTree, ReadsRule}
 
 -- The call answers by this refusal and leaves the buffer.
 pub refused_told :
@@ -34,6 +35,17 @@ pub refused_told :
     → (ruled_told (Err why) ≡ rule_answer x buffer) × (buffer ≡ rule_buffer x buffer)
 unfolding ruled_told
 refused_told x buffer why none (told, left) = (ap (λ l. refused (number_of why) l 1) none ∙ sym told, sym left)
+
+-- The text is no rule.
+pub no_tree :
+    (x : Text) (buffer : List ℕ)
+    → length buffer ≡ 512
+    → (r : Option (List (List ℕ)))
+    → r ≡ None
+    → ReadsRule x r
+    → (ruled_told (Err NoRule) ≡ rule_answer x buffer) × (buffer ≡ rule_buffer x buffer)
+unfolding ReadsRule
+no_tree x buffer b r none reads = refused_told x buffer NoRule refl (rule_22_grammar x buffer b (rw none at reads))
 
 -- Lines with the same numbers are the same.
 same_fields : (f g : Subformula) → fields f ≡ fields g → f ≡ g

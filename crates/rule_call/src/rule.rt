@@ -1,4 +1,4 @@
-// The call rule.
+// The call rule of document 02 (i), with its questions 21 to 23.
 ghost use Rattle.std.specs.Prelude.{◌≡◌, ◌*◌, ◌≤◌, length};
 ghost use Rattle.std.proofs.lemmas.List.Edits.{sets};
 ghost use Rattle.rule_text.specs.Lines.{lines_text};
@@ -19,11 +19,7 @@ fn read_rule(text: &[u8]) -> Option<Lines>
     let mut reader = Reader::new(text);
     reader.expression(1)?;
     let Reader { rest, lines } = reader;
-    if skip_spaces(rest).is_empty() {
-        Some(lines)
-    } else {
-        None
-    }
+    skip_spaces(rest).is_empty().then_some(lines)
 }
 
 // Writes the lines from the start of the buffer on.
@@ -47,9 +43,7 @@ pub fn rule(text: &[u8], buffer: &mut [u8]) -> Result<usize, Refusal>
     if 512 < text.len() {
         return Err(Refusal::NoRule);
     }
-    let Some(lines) = read_rule(text) else {
-        return Err(Refusal::NoRule);
-    };
+    let lines = read_rule(text).ok_or(Refusal::NoRule)?;
     let n = lines.count();
     if 32 < n {
         return Err(Refusal::TooManyLines);

@@ -1,4 +1,4 @@
-// The lines that a binary operator adds: `f | g` is not(not f and not g), and `f => g` is not(f and not g).
+// The lines that a binary operator adds (document 02 (i)): `f | g` is not(not f and not g), and `f => g` is not(f and not g).
 ghost use Rattle.rule_lines.specs.Held.{KeptAs};
 ghost use Rattle.rule_lines.specs.Joining.{left_kept, not_both, join_kept};
 
@@ -8,6 +8,7 @@ use rule_text::token::Operator;
 
 impl Lines {
     // The left operand's line, once the operator is known and before the right operand is read: `|` has it negated.
+    #[tactic(auto, unfolding(crate::specs::Joining::left_kept))]
     pub fn keep_left(&mut self, o: Operator, a: usize) -> usize
         ensures { KeptAs (left_kept o a self.old) result self.new }
     {
@@ -27,6 +28,7 @@ impl Lines {
     }
 
     // The operator's own lines, behind those of both operands.
+    #[tactic(auto, unfolding(crate::specs::Joining::join_kept))]
     pub fn keep_joined(&mut self, o: Operator, a: usize, b: usize) -> usize
         ensures { KeptAs (join_kept o a b self.old) result self.new }
     {

@@ -7,6 +7,7 @@ ghost use Rattle.rule_lines.specs.Held.{Finds, KeptAs};
 use job::subformula::Subformula;
 use std::marker::Model;
 
+// Its own array and count: the kit's `ArrayVec` fills its free places with a default, and no subformula is one.
 #[derive(Drop)]
 pub struct Lines {
     kept: [Subformula; 33],

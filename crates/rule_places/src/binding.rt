@@ -1,4 +1,5 @@
-// How strongly the binary operators bind, and to which side they group.
+// How strongly the binary operators bind, and to which side they group: document 02 (i), "`&`, `|`, `=>`, weaker in this order; `&` and `|`
+// group to the left, `=>` to the right".
 ghost use Rattle.std.specs.Prelude.{◌≡◌, ◌≤◌};
 ghost use Rattle.rule_places.specs.Binding.{binding_of, right_of};
 

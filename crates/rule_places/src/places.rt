@@ -10,11 +10,7 @@ pub fn behind_mark(text: &[u8], mark: Mark) -> Option<&[u8]>
     ensures { Marked text.now mark result }
 {
     let first = first_token(text);
-    if first.token == Token::Mark(mark) {
-        Some(first.behind)
-    } else {
-        None
-    }
+    (first.token == Token::Mark(mark)).then_some(first.behind)
 }
 
 // A binary operator, the least strength of the operators in its right operand, and the text behind it.

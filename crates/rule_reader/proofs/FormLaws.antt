@@ -7,14 +7,13 @@ use native.Mathlib.Omega.{arith}
 use Rattle.std.proofs.Common.{Some, None}
 use Rattle.std.specs.Prelude.{Option}
 use Rattle.text.specs.Field.{Text}
-use Rattle.job.specs.Job.{for_all, exists}
 use Rattle.job.specs.Formula.{fields}
 use Rattle.job.specs.declared.subformula.Subformula.TheVariants as kind
 use Rattle.rule_text.specs.Tree.{Tree, atom, prefix}
 use Rattle.rule_text.specs.Lines.{rewritten, prefix_line}
 use Rattle.rule_text.specs.Kept.{keep, kept}
 use Rattle.rule_text.specs.Scan.{tokens}
-use Rattle.rule_text.specs.Parse.{Parse, none, found, and_then, parse, read_step, read_prefix, read_marked, read_closed, prefix_form, closed_form, parenthesized, until_form}
+use Rattle.rule_text.specs.Parse.{Parse, none, found, and_then, parse, read_step, read_prefix, read_marked, read_closed, prefix_form, closed_form}
 use Rattle.rule_text.specs.declared.token.Prefix.{Prefix as PrefixOperator}
 use Rattle.rule_text.specs.declared.token.Mark.{Mark as MarkKind}
 use Rattle.rule_text.specs.declared.token.Mark.TheVariants.{ForAllPaths, OnSomePath, Until, LeftParenthesis, RightParenthesis, LeftBracket, RightBracket}
@@ -99,17 +98,8 @@ module _ (x : Text) (ls : List (List ℕ)) (m : MarkKind) (r : Option ℕ) (y : 
   unfolding read_closed
   mark_step = closed_step (Mark m ∷ tokens x)
 
-  pub reads_parenthesis : m ≡ LeftParenthesis → ReadsAs x 0 (parse parenthesized (tokens x)) ls r y after → ReadsAs x 0 marked ls r y after
-  unfolding read_marked
-  reads_parenthesis e = reads_is x 0 ls _ _ r y after (mark_step ∙ ap (λ n. read_marked parse n (tokens x)) e)
-
-  pub reads_all : m ≡ ForAllPaths → ReadsAs x 0 (parse (until_form for_all) (tokens x)) ls r y after → ReadsAs x 0 marked ls r y after
-  unfolding read_marked
-  reads_all e = reads_is x 0 ls _ _ r y after (mark_step ∙ ap (λ n. read_marked parse n (tokens x)) e)
-
-  pub reads_some : m ≡ OnSomePath → ReadsAs x 0 (parse (until_form exists) (tokens x)) ls r y after → ReadsAs x 0 marked ls r y after
-  unfolding read_marked
-  reads_some e = reads_is x 0 ls _ _ r y after (mark_step ∙ ap (λ n. read_marked parse n (tokens x)) e)
+  pub reads_marked : (k : MarkKind) → m ≡ k → ReadsAs x 0 (read_marked parse k (tokens x)) ls r y after → ReadsAs x 0 marked ls r y after
+  reads_marked k e = reads_is x 0 ls _ _ r y after (mark_step ∙ ap (λ n. read_marked parse n (tokens x)) e)
 
 -- A mark that starts no closed form.
 unfoldable pub opens_form : MarkKind → Bool

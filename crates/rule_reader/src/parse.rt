@@ -64,6 +64,7 @@ impl<'a> Reader<'a> {
             self.old.lines result self.new.rest.now self.new.lines }
     {
         let mut left = self.prefix_form()?;
+        // no iterator, since each turn reads on from where the one before has stopped
         while let Some(infix) = first_operator(self.rest, least) {
             let a = self.lines.keep_left(infix.operator, left);
             self.rest = infix.behind;

@@ -34,7 +34,7 @@ pub enum Token {
     Prefix(Prefix),
     Operator(Operator),
     Mark(Mark),
-    // bytes that are no token
+    // bytes that are no token: a case, and no `None`, so that the tokens of any text are a list
     Unknown,
 }
 

@@ -1,17 +1,17 @@
-// Which token a text starts with, by its first bytes.
+// Which token a text starts with, by its first bytes: the tokens of document 02 (i) and (iii).
 ghost use Rattle.std.specs.Prelude.{◌≡◌, ◌<◌, ◌≤◌, length, get_or};
 ghost use Rattle.rule_text.specs.Scan as scanned;
 
 use rule_text::token::{Lexeme, Mark, Operator, Prefix, Token};
 
-// The byte at `at`, 0 behind the end.
+// The byte at `at`, 0 behind the end: as in the definition, and 0 is no byte of a token, so no test below asks for the end.
 fn byte(text: &[u8], at: usize) -> u8
     ensures { result ≡ get_or text.now at 0 }
 {
     text.get(at).copied().unwrap_or(0)
 }
 
-// Bytes that are no token.
+// Bytes that are no token, of which one is passed, as in the definition.
 const UNKNOWN: Lexeme = Lexeme {
     token: Token::Unknown,
     width: 1,

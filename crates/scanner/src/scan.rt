@@ -21,6 +21,7 @@ fn space_count(text: &[u8]) -> usize
 }
 
 // The text behind the spaces that it starts with.
+#[tactic(auto, using(crate::proofs::ScanLaws::skips_spaces))]
 pub fn skip_spaces(text: &[u8]) -> &[u8]
     ensures { Skips text.now result.now }
 {

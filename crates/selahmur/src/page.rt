@@ -8,6 +8,7 @@ use calls::page::page;
 use numbers::store::store;
 
 // Writes the page of a node's table at the start of the buffer; the bytes behind it stay, and so does the table. No numbers of its own.
+#[tactic(auto, using(crate::proofs::AnswerLaws::stored_told), unfolding(calls::specs::Told::page_told))]
 #[unsafe(no_mangle)]
 pub extern "C" fn selahmur_page(
     text: &[u8],

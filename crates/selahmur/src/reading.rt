@@ -9,6 +9,7 @@ use layout::lines::{Part, line_part};
 use numbers::store::{put_all, store};
 
 // Questions 1 to 8. Own numbers: states, edges, subformulas, nodes.
+#[tactic(auto, using(crate::proofs::AnswerLaws::stored_told), unfolding(job::specs::Read::read_told))]
 #[unsafe(no_mangle)]
 pub extern "C" fn selahmur_read(text: &[u8], out: &mut [usize])
     ensures { out.new ≡ stored out.old (numbers (read_answer text.now)) }

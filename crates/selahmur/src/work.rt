@@ -11,6 +11,7 @@ use calls::step::step;
 use numbers::store::store;
 
 // Makes every cell empty. No numbers of its own.
+#[tactic(auto, using(crate::proofs::AnswerLaws::stored_told), unfolding(calls::specs::Told::fresh_told))]
 #[unsafe(no_mangle)]
 pub extern "C" fn selahmur_fresh(text: &[u8], table: &mut [u8], out: &mut [usize])
     ensures told { out.new ≡ stored_answer out.old Call.fresh text.now table.old }
@@ -20,6 +21,7 @@ pub extern "C" fn selahmur_fresh(text: &[u8], table: &mut [u8], out: &mut [usize
 }
 
 // The step of one node. Own number: how many cells are filled.
+#[tactic(auto, using(crate::proofs::AnswerLaws::stored_told), unfolding(calls::specs::Told::step_told))]
 #[unsafe(no_mangle)]
 pub extern "C" fn selahmur_step(text: &[u8], table: &mut [u8], node: usize, out: &mut [usize])
     ensures told { out.new ≡ stored_answer out.old (Call.step node) text.now table.old }
@@ -29,6 +31,7 @@ pub extern "C" fn selahmur_step(text: &[u8], table: &mut [u8], node: usize, out:
 }
 
 // The cell of a node, state and subformula; node 255 names none and is read as the state's owner. Own number: the cell, 2 where it is empty.
+#[tactic(auto, using(crate::proofs::AnswerLaws::stored_told), unfolding(calls::specs::Told::look_told))]
 #[unsafe(no_mangle)]
 pub extern "C" fn selahmur_look(
     text: &[u8],
@@ -46,6 +49,7 @@ pub extern "C" fn selahmur_look(
 }
 
 // Makes the empty cells of the smallest open subformula 0, on a settled table. Own numbers: that subformula, how many cells are filled.
+#[tactic(auto, using(crate::proofs::AnswerLaws::stored_told), unfolding(calls::specs::Told::close_told))]
 #[unsafe(no_mangle)]
 pub extern "C" fn selahmur_close(text: &[u8], table: &mut [u8], out: &mut [usize])
     ensures told { out.new ≡ stored_answer out.old Call.close text.now table.old }
@@ -55,6 +59,7 @@ pub extern "C" fn selahmur_close(text: &[u8], table: &mut [u8], out: &mut [usize
 }
 
 // Rounds until one fills nothing. Own numbers: the verdict, the rounds done, the cells filled.
+#[tactic(auto, using(crate::proofs::AnswerLaws::stored_told), unfolding(calls::specs::Told::finish_told))]
 #[unsafe(no_mangle)]
 pub extern "C" fn selahmur_finish(text: &[u8], table: &mut [u8], out: &mut [usize])
     ensures told { out.new ≡ stored_answer out.old Call.finish text.now table.old }

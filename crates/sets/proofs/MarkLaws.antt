@@ -29,7 +29,7 @@ use Rattle.image.specs.Denoted.{job_of}
 use Rattle.image.proofs.Ranks.{state_below, state_inside, rank_state, rank_below, state_rank}
 use Rattle.image.specs.declared.image.Image.{Image}
 use Rattle.image.proofs.ImageLaws.{image_job}
-use Rattle.table.specs.Lent.{Ready, IsCell}
+use Rattle.table.specs.Lent.{Ready, IsCell, IsColumn}
 use Rattle.table.specs.Column.{cells_of}
 use Rattle.spread.specs.Spread.{spread_rule, Joinable, Spread}
 use Rattle.spread.proofs.Turn.{rule_mono}
@@ -85,9 +85,6 @@ module _ (J : Job) (job : IsJob J) (n : ℕ) (f : ℕ → ℕ) (d : ℕ) where
         }
 
   -- what the loop leaves
-  pub marks_end : (i : ℕ) → fragment_size J n ≡ i → (marks : List ℕ) → Marks J n f d i marks → Marks J n f d (fragment_size J n) marks
-  marks_end i e marks so = rw e so
-
   module _ (marks : List ℕ) (done : Marks J n f d (fragment_size J n) marks) where
     marks_over : (s : ℕ) → s < 256 → get_or marks s 0 ≡ cond (in_fragment J n s) (f s) d
     marks_over s l =
@@ -228,23 +225,23 @@ spread_member M q marks after spread s l =
 
 -- The marks of a column, over a table whose cells are right.
 module _ (m : Image) (t : Table) (ready : Ready m t) (n k : ℕ) (g : Growth) (wide : Bool)
-    (here : (n < (job_of m).nodes) × (k < subformula_count (job_of m)) × InRange k (rule_by g)) where
+    (column_in : IsColumn (job_of m) n k) (range : InRange k (rule_by g)) where
   abbrev J : Job
   J = job_of m
 
   -- the cells that are read, at a state
   module _ (s : ℕ) (l : s < size J) where
     wanted_cell : (c : Condition) → AsksSmaller k c → IsCell J n s (wanted k c).subformula
-    wanted_cell c o = record { node_in = here.0; state_in = l; subformula_in = wanted_in k (subformula_count J) here.1 c o }
+    wanted_cell c o = record { node_in = column_in.node_in; state_in = l; subformula_in = wanted_in k (subformula_count J) column_in.subformula_in c o }
 
     pub cells_in : (by : Marking) → by ≡ marking_of k g wide → CellsIn J n s by
     unfolding InRange
     cells_in by e =
         rw e
         (record {
-          own_in = record { node_in = here.0; state_in = l; subformula_in = here.1 };
-          start_in = wanted_cell g.start here.2.0;
-          grow_in = wanted_cell g.grow here.2.1;
+          own_in = record { node_in = column_in.node_in; state_in = l; subformula_in = column_in.subformula_in };
+          start_in = wanted_cell g.start range.0;
+          grow_in = wanted_cell g.grow range.1;
         })
 
   -- a state's mark by the cells that the conditions want
@@ -259,10 +256,10 @@ module _ (m : Image) (t : Table) (ready : Ready m t) (n k : ℕ) (g : Growth) (w
   outside_mark : (s : ℕ) → s < size J → in_fragment J n s ≡ false → mark_at J t n k g wide s ≡ unknown wide
   unfolding mark is_empty cell inside inner InRange
   outside_mark s l o =
-      let k_in = here.1 in
-      let low = here.2.2 in
+      let k_in = column_in.subformula_in in
+      let low = range.2 in
       let empty : cell J t n s k ≡ 2 =
-      (right_is J t ready.right).outside (index J n s k) (omega (arith, ready.lent.long, index_lt J n s k here.0 l k_in))
+      (right_is J t ready.right).outside (index J n s k) (omega (arith, ready.lent.long, index_lt J n s k column_in.node_in l k_in))
       (ap₂ (in_fragment J) (node_of_index J n s k l k_in) (state_of_index J n s k l k_in) ∙ o) in
       let border : inner J n s ≡ false = simp o in
       rw (empty, border, ne_eqb 2 g.value (λ e. omega arith)) refl

@@ -12,12 +12,13 @@ use lib.Dec.{eqb}
 use Rattle.law.specs.Bounded.{Inside}
 use Rattle.law.specs.Fixpoint.{Rule, Monotone, member, least}
 use Rattle.law.proofs.Bool.{split, clash, not_not, and_left, and_right, or_right, and_mono, or_mono, or_cases}
-use Rattle.law.proofs.Bounded.{by_equal, any_intro, any_none, any_no}
+use Rattle.law.proofs.Bounded.{by_equal, any_no}
+use Rattle.law.proofs.Ranges.{any_places}
 use Rattle.law.proofs.Least.{least_ind, least_closed, least_inside, least_unique, least_same}
 use Rattle.law.proofs.Greatest.{others, greatest_dual}
 use Rattle.law.proofs.Greatest.{dual_rule}
 use Rattle.law.proofs.Lists.{tab_at}
-use Rattle.job.specs.Job.{Job, Structure, dual, over, size, subformula_count}
+use Rattle.job.specs.Job.{Job, Structure, dual, over, size}
 use Rattle.job.specs.Rule.{quantifier, InRange}
 use Rattle.job.specs.Written.{IsJob}
 use Rattle.job.specs.declared.rule.Condition.{Condition}
@@ -29,12 +30,13 @@ use Rattle.cells.specs.Step.{known, column}
 use Rattle.cells.proofs.Columns.{over_same}
 use Rattle.cells.proofs.Fill.{is_empty_lem}
 use Rattle.cells.proofs.Right.{right_is, known_small}
-use Rattle.image.specs.Image.{fragment_size, fragment_state}
+use Rattle.image.specs.Image.{fragment_size, fragment_state, fragment}
 use Rattle.image.specs.Denoted.{job_of}
 use Rattle.image.proofs.Ranks.{by_rank}
+use Rattle.image.proofs.FragmentSlice.{length-fragment, get_or-fragment}
 use Rattle.image.specs.declared.image.Image.{Image}
 use Rattle.image.proofs.ImageLaws.{image_job}
-use Rattle.table.specs.Lent.{Ready}
+use Rattle.table.specs.Lent.{Ready, IsColumn}
 use Rattle.table.specs.Filling.{Leaves, part, of_column}
 use Rattle.table.specs.Column.{cells_of, column_values, step_by}
 use Rattle.table.proofs.Parts.{part_same, leaves_is, leaves_idle}
@@ -126,7 +128,7 @@ value_same false false x y z = refl
 
 -- The column of a set rule.
 module _ (m : Image) (t : Table) (ready : Ready m t) (n k : ℕ) (g : Growth)
-    (here : (n < (job_of m).nodes) × (k < subformula_count (job_of m)) × InRange k (rule_by g)) where
+    (column_in : IsColumn (job_of m) n k) (range : InRange k (rule_by g)) where
   abbrev J : Job
   J = job_of m
 
@@ -153,7 +155,7 @@ module _ (m : Image) (t : Table) (ready : Ready m t) (n k : ℕ) (g : Growth)
 
   pub value_low : g.value ≤ 1
   unfolding InRange
-  value_low = here.2.2
+  value_low = range.2
 
   cell_low : (s j : ℕ) → cell J t n s j ≤ 2
   unfolding cell
@@ -257,37 +259,22 @@ module _ (m : Image) (t : Table) (ready : Ready m t) (n k : ℕ) (g : Growth)
         (part_same J t ready.lent.long (of_column n k) (of_column n k) (set_values g.value small out) (column_values J t n k (rule_by g))
         (λ m s j h o. ap (λ x. cond (of_column n k m s j) x 2) (set_value_is s h.state_in)))
 
--- The loop that looks for an empty cell.
+-- Where no state of the fragment has an empty cell, the column stays as it is.
 module _ (J : Job) (t : Table) (n k : ℕ) where
-  abbrev pub filled_at : ℕ → Type 0
-  filled_at i = is_empty (cell J t n (fragment_state J n i) k) ≡ false
+  abbrev empty : ℕ → Bool
+  empty s = is_empty (cell J t n s k)
 
-  -- the cell of rank i
-  module _ (i s c : ℕ) (at : s ≡ fragment_state J n i) (is : c ≡ cell J t n s k) where
-    read : is_empty c ≡ is_empty (cell J t n (fragment_state J n i) k)
-    read = ap is_empty (is ∙ ap (λ x. cell J t n x k) at)
+  filled_at : has_empty J t n k ≡ false → (i : ℕ) → i < fragment_size J n → empty (fragment_state J n i) ≡ false
+  filled_at none i l =
+      let list = fragment J n in
+      ap empty (sym (get_or-fragment J n i l))
+      ∙ any_no (λ d. empty (get_or list d 0)) (length list) (sym (any_places empty list 0) ∙ none) i (omega (arith, l, length-fragment J n))
 
-    pub empty_found : i < fragment_size J n → c ≡ 2 → true ≡ has_empty J t n k
-    unfolding has_empty
-    empty_found l e =
-        sym
-        (any_intro (λ d. is_empty (cell J t n (fragment_state J n d) k)) (fragment_size J n) i l (sym read ∙ is_empty_lem c e))
-
-    pub empty_passed : (c ≡ 2 → ⊥) → filled_at i
-    unfolding is_empty
-    empty_passed f = sym read ∙ ne_eqb c 2 f
-
-  pub empty_none : (i : ℕ) → i ≡ fragment_size J n → ((d : ℕ) → d < i → filled_at d) → false ≡ has_empty J t n k
-  unfolding has_empty
-  empty_none i e so =
-      sym (any_none (λ d. is_empty (cell J t n (fragment_state J n d) k)) (fragment_size J n) (λ d l. so d (omega arith)))
-
-  -- without one the column stays as it is
   pub no_empty_filled :
       (job : IsJob J) (long : length t ≡ table_length J) (new : ℕ → ℕ → ℕ → ℕ)
       → has_empty J t n k ≡ false
       → Leaves t (part J (of_column n k) new t) t 0
-  unfolding has_empty of_column
+  unfolding of_column
   no_empty_filled job long new none =
       leaves_idle J t long (of_column n k) new
       (λ m s j h o e.
@@ -296,7 +283,6 @@ module _ (J : Job) (t : Table) (n k : ℕ) where
       let p = eqb-true m n (and_left (eqb m n) (eqb j k) y) in
       let q = eqb-true j k (and_right (eqb m n) (eqb j k) y) in
       let full : is_empty (cell J t n s k) ≡ false =
-      by_rank J job n (λ u. is_empty (cell J t n u k) ≡ false)
-      (any_no (λ d. is_empty (cell J t n (fragment_state J n d) k)) (fragment_size J n) none) s (rw p at o) in
+      by_rank J job n (λ u. empty u ≡ false) (filled_at none) s (rw p at o) in
       clash (is_empty (cell J t n s k)) (is_empty_lem (cell J t n s k) (rw (p, q) at e)) full)
       (λ y. simp y))

@@ -1,6 +1,6 @@
 -- The two sets of a set rule as least sets that spread from marks, and arrays that hold the marks of a node's fragment. Assumes nothing.
 use Rattle.std.specs.Prelude.{ℕ, ◌-◌, ◌<◌, ◌≡◌, Bool, cond, ◌&&◌, ◌||◌, List, length, get_or, eqb, ltb}
-use Rattle.law.specs.Bounded.{any}
+use Rattle.std.specs.List.{list_any}
 use Rattle.law.specs.Fixpoint.{member, least}
 use Rattle.law.specs.Fixpoint as fixpoint
 use Rattle.job.specs.Job.{Job, over, size}
@@ -12,7 +12,7 @@ use Rattle.job.specs.declared.rule.Rule.TheVariants.{Sets}
 use Rattle.cells.specs.Fragment.{in_fragment, inner}
 use Rattle.cells.specs.Table.{Table, cell, is_empty}
 use Rattle.cells.specs.Step.{known}
-use Rattle.image.specs.Image.{rank, fragment_size, fragment_state}
+use Rattle.image.specs.Image.{rank, fragment}
 use Rattle.table.specs.Column.{cells_of}
 use Rattle.table.specs.Filling.{Values}
 use Rattle.table.specs.Lent.{IsCell}
@@ -83,8 +83,8 @@ pub record Marks (J : Job) (n : ℕ) (f : ℕ → ℕ) (d i : ℕ) (marks : List
   pub at_state : (s : ℕ) → s < 256 → get_or marks s 0 ≡ cond (in_fragment J n s && ltb (rank J n s) i) (f s) d
 
 -- Some state of the fragment has an empty cell.
-unfoldable pub has_empty : Job → Table → ℕ → ℕ → Bool
-has_empty J t n k = any (λ i. is_empty (cell J t n (fragment_state J n i) k)) (fragment_size J n)
+abbrev pub has_empty : Job → Table → ℕ → ℕ → Bool
+has_empty J t n k = list_any (λ s. is_empty (cell J t n s k)) (fragment J n)
 
 -- A state's value by its marks in the end: in the smallest set, left out of the largest, or in the largest.
 unfoldable pub set_value : ℕ → ℕ → ℕ → ℕ

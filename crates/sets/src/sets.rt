@@ -1,14 +1,13 @@
 // The column of a set rule. Both sets spread from marks of the node's fragment: the smallest where only what is known counts, and what the
 // largest leaves out where all that may still be counts too.
-ghost use Rattle.std.specs.Prelude.{◌≡◌, ◌<◌, ◌≤◌};
-ghost use Rattle.job.specs.Job.{subformula_count};
+ghost use Rattle.std.specs.Prelude.{◌≡◌, ◌≤◌};
 ghost use Rattle.job.specs.Rule.{InRange};
 ghost use Rattle.image.specs.Denoted.{job_of};
-ghost use Rattle.table.specs.Lent.{Lent, Ready};
-ghost use Rattle.table.specs.Filling.{Leaves, part, of_column};
+ghost use Rattle.table.specs.Lent.{Lent, Ready, IsColumn};
+ghost use Rattle.table.specs.Filling.{Leaves};
 ghost use Rattle.table.specs.Column.{step_by};
 ghost use Rattle.spread.specs.Spread.{mark_number, numbers};
-ghost use Rattle.sets.specs.Marks.{rule_by, unknown, wanted as wanted_of, marking_of, CellsIn, mark_by, IsSet, has_empty, set_value, set_values};
+ghost use Rattle.sets.specs.Marks.{rule_by, unknown, counts, wanted as wanted_of, marking_of, CellsIn, mark_by, IsSet, has_empty, set_value};
 
 use image::image::Image;
 use image::place::Place;
@@ -77,6 +76,13 @@ fn unknown(wide: bool) -> Mark
     if wide { Mark::In } else { Mark::Out }
 }
 
+// Whether a cell counts as the value that is wanted: where `wide`, so does what is not known yet.
+fn counts(wide: bool, v: u8, x: u8) -> bool
+    ensures { result ≡ counts wide v x }
+{
+    x == v || (wide && x == 2)
+}
+
 // The mark of state s. The state of a filled cell is done with one look.
 fn mark(m: &Image, table: &[u8], n: usize, s: usize, by: Marking) -> Mark
     requires lent { Lent m.now table.now }
@@ -94,11 +100,11 @@ fn mark(m: &Image, table: &[u8], n: usize, s: usize, by: Marking) -> Mark
         return unknown(by.wide);
     }
     let b = cell(m, table, n, s, by.start.subformula);
-    if (b == by.start.value) | (by.wide & (b == 2)) {
+    if counts(by.wide, by.start.value, b) {
         return Mark::In;
     }
     let a = cell(m, table, n, s, by.grow.subformula);
-    if (a == by.grow.value) | (by.wide & (a == 2)) {
+    if counts(by.wide, by.grow.value, a) {
         return Mark::May;
     }
     Mark::Out
@@ -108,13 +114,14 @@ fn mark(m: &Image, table: &[u8], n: usize, s: usize, by: Marking) -> Mark
 // `wide`, all that the largest set leaves out. A state outside the fragment is as one of which nothing is known.
 fn set_of(m: &Image, table: &[u8], n: usize, k: usize, g: Growth, wide: bool) -> [Mark; 256]
     requires ready { Ready m.now table.now }
-    requires n_bound { (n < (job_of m.now).nodes) × (k < subformula_count (job_of m.now)) × InRange k (rule_by g) }
+    requires column { IsColumn (job_of m.now) n k }
+    requires in_range { InRange k (rule_by g) }
     ensures { IsSet (job_of m.now) table.now n k g wide (numbers result) }
 {
     let by = marking_of(k, g, wide);
     let mut marks = [unknown(wide); 256];
-    for i in 0..m.fragment_size(n) {
-        let s = m.fragment_state(n, i);
+    for &state in m.fragment(n) {
+        let s = usize::from(state);
         marks[s] = mark(m, table, n, s, by);
     }
     spread(m, n, g.all, &mut marks);
@@ -124,16 +131,12 @@ fn set_of(m: &Image, table: &[u8], n: usize, k: usize, g: Growth, wide: bool) ->
 // Whether the fragment has a state whose cell of subformula k is empty.
 fn has_empty(m: &Image, table: &[u8], n: usize, k: usize) -> bool
     requires lent { Lent m.now table.now }
-    requires n_bound { (n < (job_of m.now).nodes) × (k < subformula_count (job_of m.now)) }
+    requires column { IsColumn (job_of m.now) n k }
     ensures { result ≡ has_empty (job_of m.now) table.now n k }
 {
-    for i in 0..m.fragment_size(n) {
-        let s = m.fragment_state(n, i);
-        if cell(m, table, n, s, k) == 2 {
-            return true;
-        }
-    }
-    false
+    m.fragment(n)
+        .iter()
+        .any(|&s| cell(m, table, n, usize::from(s), k) == 2)
 }
 
 // A state's value by its marks in the end.
@@ -151,29 +154,12 @@ fn set_value(v: u8, small: Mark, out: Mark) -> u8
     1 - v
 }
 
-// The empty cells of node n and subformula k take the values of their marks. Returns how many take one.
-fn fill_marked(
-    m: &Image,
-    table: &mut [u8],
-    n: usize,
-    k: usize,
-    v: u8,
-    small: &[Mark; 256],
-    out: &[Mark; 256],
-) -> usize
-    requires lent { Lent m.now table.old }
-    requires n_bound { (n < (job_of m.now).nodes) × (k < subformula_count (job_of m.now)) × (v ≤ 1) }
-    ensures { Leaves table.old
-        (part (job_of m.now) (of_column n k) (set_values v (numbers small.now) (numbers out.now)) table.old)
-        table.new result }
-{
-    fill_column(m, table, n, k, |_, s| set_value(v, small[s], out[s]))
-}
-
-// The step of a column by a set rule. A column without an empty cell is not worked.
+// The step of a column by a set rule: the empty cells take the values of their marks. A column without an empty cell is not worked.
+// Returns how many take one.
 pub fn fill_by_sets(m: &Image, table: &mut [u8], n: usize, k: usize, g: Growth) -> usize
     requires ready { Ready m.now table.old }
-    requires n_bound { (n < (job_of m.now).nodes) × (k < subformula_count (job_of m.now)) × InRange k (rule_by g) }
+    requires column { IsColumn (job_of m.now) n k }
+    requires in_range { InRange k (rule_by g) }
     ensures { Leaves table.old (step_by (job_of m.now) n k (rule_by g) table.old) table.new result }
 {
     if !has_empty(m, table, n, k) {
@@ -181,5 +167,5 @@ pub fn fill_by_sets(m: &Image, table: &mut [u8], n: usize, k: usize, g: Growth) 
     }
     let small = set_of(m, table, n, k, g, false);
     let out = set_of(m, table, n, k, g, true);
-    fill_marked(m, table, n, k, g.value, &small, &out)
+    fill_column(m, table, n, k, |_, s| set_value(g.value, small[s], out[s]))
 }

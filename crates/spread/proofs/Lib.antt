@@ -1,6 +1,6 @@
 pub mod Marks
 pub mod Chain
-pub mod Queue
+pub mod Waiting
 pub mod Tally
 pub mod Turn
 pub mod Walk

@@ -2,11 +2,11 @@
 use Prim.Native.Nat.{ℕ, ◌+◌, ◌<◌, ◌≤◌}
 use mathlib.Core.Path.{◌≡◌, sym, ◌∙◌, ap}
 use mathlib.Core.Bool.{Bool, true, false, ◌&&◌}
-use mathlib.Core.List.{List}
+use mathlib.Core.List.{List, [], ◌∷◌, ◌++◌}
 use mathlib.Core.Logic.{inl, inr, ⊎_elim}
 use native.Mathlib.Omega.{arith}
 use borrow.Author.Tests.{eqb-true, eq-eqb, ne_eqb}
-use lib.ListN.{get_or, set, length-set}
+use lib.ListN.{length, get_or, set, length-set}
 use lib.Seq.{get_or-set_same, get_or-set_other}
 use lib.Dec.{eqb}
 use Rattle.law.specs.Fixpoint.{Monotone, member, least}
@@ -22,7 +22,7 @@ use Rattle.cells.proofs.FragmentLaws.{owns_intro, owned_inside}
 use Rattle.image.specs.Image.{edge_from, edge_to}
 use Rattle.spread.specs.Spread.{spread_rule}
 use Rattle.spread.specs.Underway.{enough, outs, seen_outs, in_set, Underway}
-use Rattle.spread.proofs.Queue.{lists_room, lists_push}
+use Rattle.spread.proofs.Waiting.{waits_room, waits_push}
 use Rattle.spread.proofs.Tally.{source_in, target_in, enough_over, seen_few, seen_same, seen_here, seen_other}
 
 pub rule_mono : (M : Structure) (q : Quantifier) (before : List ℕ) → Monotone (spread_rule M q before)
@@ -56,8 +56,8 @@ module _ (J : Job) (all : Bool) (before : List ℕ) where
         (or_right (eqb (get_or before s 0) 2) joined
         (and_intro (eqb (get_or before s 0) 1) (over J.structure (quantifier all) s in_least) (eq-eqb (get_or before s 0) 1 e) o))
 
-module _ {J : Job} {n : ℕ} {all : Bool} {before : List ℕ} {seen : ℕ → Bool} {marks counts queue : List ℕ} {tail : ℕ}
-    (w : Underway J n all before seen marks counts queue tail) where
+module _ {J : Job} {n : ℕ} {all : Bool} {before : List ℕ} {seen told : ℕ → Bool} {marks counts waiting : List ℕ}
+    (w : Underway J n all before seen told marks counts waiting) where
   -- a marked state is in the least set, and one that may still join might at the start
   pub marked_sound : (s : ℕ) → s < size J → get_or marks s 0 ≡ 2 → in_least J all before s ≡ true
   marked_sound s l e = ⊎_elim (λ same. least_marked J all before s l (sym same ∙ e)) (λ (two, h). h) (w.each s)
@@ -67,7 +67,7 @@ module _ {J : Job} {n : ℕ} {all : Bool} {before : List ℕ} {seen : ℕ → Bo
 
   -- the same edges by another test
   pub underway_same :
-      (seen' : ℕ → Bool) → ((e : ℕ) → e < edge_count J → seen' e ≡ seen e) → Underway J n all before seen' marks counts queue tail
+      (seen' : ℕ → Bool) → ((e : ℕ) → e < edge_count J → seen' e ≡ seen e) → Underway J n all before seen' told marks counts waiting
   underway_same seen' same =
       record {
         marks_long = w.marks_long;
@@ -80,10 +80,10 @@ module _ {J : Job} {n : ℕ} {all : Bool} {before : List ℕ} {seen : ℕ → Bo
       }
 
 -- An edge of the node that was not seen, into a state of the set.
-pub record OneMore (J : Job) (n : ℕ) (all : Bool) (before : List ℕ) (seen seen' : ℕ → Bool) (marks counts queue : List ℕ) (tail e : ℕ)
+pub record OneMore (J : Job) (n : ℕ) (all : Bool) (before : List ℕ) (seen seen' told : ℕ → Bool) (marks counts waiting : List ℕ) (e : ℕ)
     : Type 0 where
   pub job : IsJob J
-  pub underway : Underway J n all before seen marks counts queue tail
+  pub underway : Underway J n all before seen told marks counts waiting
   pub inside : e < edge_count J
   pub ours : owner J (edge_from J.structure e) ≡ n
   pub new : seen e ≡ false
@@ -91,16 +91,16 @@ pub record OneMore (J : Job) (n : ℕ) (all : Bool) (before : List ℕ) (seen se
   pub others : (j : ℕ) → j < edge_count J → (j ≡ e → ⊥) → seen' j ≡ seen j
   pub target_marked : get_or marks (edge_to J.structure e) 0 ≡ 2
 
-module _ {J : Job} {n : ℕ} {all : Bool} {before : List ℕ} {seen seen' : ℕ → Bool} {marks counts queue : List ℕ} {tail e : ℕ}
-    (o : OneMore J n all before seen seen' marks counts queue tail e) where
-  abbrev w : Underway J n all before seen marks counts queue tail
+module _ {J : Job} {n : ℕ} {all : Bool} {before : List ℕ} {seen seen' told : ℕ → Bool} {marks counts waiting : List ℕ} {e : ℕ}
+    (o : OneMore J n all before seen seen' told marks counts waiting e) where
+  abbrev w : Underway J n all before seen told marks counts waiting
   w = o.underway
 
   abbrev s : ℕ
   s = edge_from J.structure e
 
-  abbrev told : ℕ
-  told = get_or counts s 0 + 1
+  abbrev number : ℕ
+  number = get_or counts s 0 + 1
 
   s_in : s < size J
   s_in = source_in J o.job e o.inside
@@ -111,13 +111,13 @@ module _ {J : Job} {n : ℕ} {all : Bool} {before : List ℕ} {seen seen' : ℕ 
   pub count_small : get_or counts s 0 ≤ edge_count J
   count_small = omega (arith, w.counted s s_in, seen_few J seen s)
 
-  count_here : get_or (set counts s told) s 0 ≡ told
-  count_here = get_or-set_same counts s told 0 (let g = w.counts_long in let h = small in omega arith)
+  count_here : get_or (set counts s number) s 0 ≡ number
+  count_here = get_or-set_same counts s number 0 (let g = w.counts_long in let h = small in omega arith)
 
-  count_other : (u : ℕ) → (u ≡ s → ⊥) → get_or (set counts s told) u 0 ≡ get_or counts u 0
-  count_other u q = get_or-set_other counts s u told 0 q
+  count_other : (u : ℕ) → (u ≡ s → ⊥) → get_or (set counts s number) u 0 ≡ get_or counts u 0
+  count_other u q = get_or-set_other counts s u number 0 q
 
-  counted' : (u : ℕ) → u < size J → get_or (set counts s told) u 0 ≡ seen_outs J.structure seen' u
+  counted' : (u : ℕ) → u < size J → get_or (set counts s number) u 0 ≡ seen_outs J.structure seen' u
   counted' u g =
       by_equal u s
       (λ q.
@@ -132,17 +132,17 @@ module _ {J : Job} {n : ℕ} {all : Bool} {before : List ℕ} {seen seen' : ℕ 
   -- the counts of the states that wait, but for the source's
   waits_other :
       (u : ℕ) → u < size J → (u ≡ s → ⊥) → get_or marks u 0 ≡ 1
-      → enough all (outs J.structure u) (get_or (set counts s told) u 0) ≡ false
+      → enough all (outs J.structure u) (get_or (set counts s number) u 0) ≡ false
   waits_other u g q may = rw (count_other u q) (w.waits u g may)
 
   abbrev test : Bool
-  test = enough all (outs J.structure s) told
+  test = enough all (outs J.structure s) number
 
-  pub turn_rest : (eqb (get_or marks s 0) 1 && test) ≡ false → Underway J n all before seen' marks (set counts s told) queue tail
+  pub turn_rest : (eqb (get_or marks s 0) 1 && test) ≡ false → Underway J n all before seen' told marks (set counts s number) waiting
   turn_rest stays =
       record {
         marks_long = w.marks_long;
-        counts_long = length-set counts s told ∙ w.counts_long;
+        counts_long = length-set counts s number ∙ w.counts_long;
         lists = w.lists;
         each = w.each;
         waits =
@@ -195,15 +195,15 @@ module _ {J : Job} {n : ℕ} {all : Bool} {before : List ℕ} {seen seen' : ℕ 
     unfolding in_set
     others_in_set u l q = ap (λ x. in_fragment J n u && eqb x 2) (mark_other u q)
 
-    pub turn_room : tail < 256
-    turn_room = lists_room w.lists (in_set J n (set marks s 2)) s o.job.states.below s_in new_in_set now_in_set others_in_set
+    pub turn_room : length waiting < 256
+    turn_room = waits_room w.lists (in_set J n (set marks s 2)) s o.job.states.below s_in new_in_set now_in_set others_in_set
 
-    pub turn_push : Underway J n all before seen' (set marks s 2) (set counts s told) (set queue tail s) (tail + 1)
+    pub turn_push : Underway J n all before seen' told (set marks s 2) (set counts s number) (waiting ++ s ∷ [])
     turn_push =
         record {
           marks_long = length-set marks s 2 ∙ w.marks_long;
-          counts_long = length-set counts s told ∙ w.counts_long;
-          lists = lists_push w.lists (in_set J n (set marks s 2)) s o.job.states.below s_in new_in_set now_in_set others_in_set;
+          counts_long = length-set counts s number ∙ w.counts_long;
+          lists = waits_push w.lists (in_set J n (set marks s 2)) s o.job.states.below s_in new_in_set now_in_set others_in_set;
           each =
               λ u.
               by_equal u s

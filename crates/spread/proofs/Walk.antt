@@ -1,23 +1,21 @@
--- A walk along the chain of the node's edges into the state at the queue's head: the edges passed are seen. Assumes nothing.
+-- A walk along the chain of the node's edges into a state: the edges passed are seen. Assumes nothing.
 use Prim.Native.Nat.{ℕ, zero, suc, ◌+◌, ◌<◌, ◌≤◌}
 use mathlib.Core.Path.{◌≡◌, refl, sym, ◌∙◌, ap, ap₂}
 use mathlib.Core.Bool.{Bool, true, false, ◌&&◌, ◌||◌}
 use Rattle.std.proofs.Common.{Option, Some, None}
-use mathlib.Core.List.{List}
+use mathlib.Core.List.{List, [], ◌∷◌, ◌++◌}
 use native.Mathlib.Nat.{le_refl}
 use native.Mathlib.Omega.{arith}
 use borrow.Author.Tests.{eqb-true, eq-eqb, ne_eqb, le-leb, lt-leb}
-use lib.ListN.{get_or, set}
-use lib.Seq.{get_or-set_other}
+use lib.ListN.{length, get_or, set}
 use lib.Dec.{eqb, leb}
 use Rattle.law.proofs.Bool.{split, clash, and_intro, and_left, and_right, and_no_left, and_no_right, or_right, or_false}
 use Rattle.law.proofs.Bounded.{by_order, by_equal}
-use Rattle.job.specs.Job.{Job, Structure, size, owner}
+use Rattle.job.specs.Job.{Job, Structure, owner}
 use Rattle.job.specs.Written.{IsJob, edge_count}
 use Rattle.image.specs.Image.{edge_from, edge_to, leads, last_into, edge_told}
-use Rattle.spread.specs.Underway.{enough, outs, among, told_edge, Underway, Spreading}
+use Rattle.spread.specs.Underway.{enough, outs, told_too, told_edge, Underway}
 use Rattle.spread.proofs.Chain.{last_le, last_leads, last_skips}
-use Rattle.spread.proofs.Queue.{set_marked, among_next, among_same, among_not}
 use Rattle.spread.proofs.Turn.{OneMore, underway_same, count_small, turn_rest, turn_room, turn_push, mark_stays}
 
 and_true : (b : Bool) → (b && true) ≡ b
@@ -88,10 +86,6 @@ module _ (J : Job) (n : ℕ) (told : ℕ → Bool) (t : ℕ) where
   seen_all j =
       ap (λ b. ours j && (told (edge_to M j) || b)) (ap (λ b. eqb t (edge_to M j) && b) (le-leb 0 j (omega arith)) ∙ and_true (eqb t (edge_to M j)))
 
--- the states of a queue before its head
-abbrev told_by : List ℕ → ℕ → ℕ → Bool
-told_by queue head = among (λ i. get_or queue i 0) head
-
 -- the number that tells the next edge of a walk
 abbrev pub number : Option ℕ → ℕ
 number None = 0
@@ -105,70 +99,40 @@ number_told e = ap number e ∙ of_told _
     of_told (suc e) = refl
 
 -- e is one more than the next edge of the walk, 0 at its end
-pub record Walking (J : Job) (n : ℕ) (all : Bool) (before queue₀ : List ℕ) (head tail₀ : ℕ) (marks counts queue : List ℕ) (tail e : ℕ)
+pub record Walking (J : Job) (n : ℕ) (all : Bool) (before : List ℕ) (told : ℕ → Bool) (t : ℕ) (marks counts waiting : List ℕ) (e : ℕ)
     : Type 0 where
-  pub underway :
-      Underway J n all before (seen_from J n (among (λ i. get_or queue₀ i 0) head) (get_or queue₀ head 0) e) marks counts queue tail
-  pub t_marked : get_or marks (get_or queue₀ head 0) 0 ≡ 2
-  pub on_chain : OnChain J n (among (λ i. get_or queue₀ i 0) head) (get_or queue₀ head 0) e
-  pub longer : tail₀ ≤ tail
-  pub queue_kept : (i : ℕ) → i < tail₀ → get_or queue i 0 ≡ get_or queue₀ i 0
+  pub underway : Underway J n all before (seen_from J n told t e) (told_too told t) marks counts waiting
+  pub t_marked : get_or marks t 0 ≡ 2
+  pub on_chain : OnChain J n told t e
 
-module _ {J : Job} {n : ℕ} {all : Bool} {before marks₀ counts₀ queue₀ : List ℕ} {head tail₀ : ℕ} (job : IsJob J)
-    (w : Spreading J n all before marks₀ counts₀ queue₀ tail₀ head) (l : head < tail₀) where
-  abbrev t : ℕ
-  t = get_or queue₀ head 0
+module _ (J : Job) (n : ℕ) (all : Bool) (before : List ℕ) (told : ℕ → Bool) (t : ℕ) (job : IsJob J) (new : told t ≡ false) where
+  abbrev pub WalkingAt : List ℕ → List ℕ → List ℕ → ℕ → Type 0
+  WalkingAt = Walking J n all before told t
 
-  abbrev told : ℕ → Bool
-  told = told_by queue₀ head
-
-  abbrev pub WalkingAt : List ℕ → List ℕ → List ℕ → ℕ → ℕ → Type 0
-  WalkingAt = Walking J n all before queue₀ head tail₀
-
-  -- the state at the head is in the set, and not told yet
-  pub head_in : t < size J
-  head_in = (w.underway.lists.queued head l).0
-
-  head_marked : get_or marks₀ t 0 ≡ 2
-  head_marked = set_marked J n marks₀ t (w.underway.lists.queued head l).1
-
-  head_new : told t ≡ false
-  head_new = among_not (λ i. get_or queue₀ i 0) head t (λ i g. w.underway.lists.apart i head g l)
-
-  pub walk_start : (e : ℕ) → e ≡ last_into J n t (edge_count J) → WalkingAt marks₀ counts₀ queue₀ tail₀ e
+  pub walk_start :
+      {marks counts waiting : List ℕ} → Underway J n all before (told_edge J n told) (told_too told t) marks counts waiting
+      → get_or marks t 0 ≡ 2
+      → (e : ℕ) → e ≡ last_into J n t (edge_count J) → WalkingAt marks counts waiting e
   unfolding told_edge
-  walk_start e is =
+  walk_start underway marked e is =
       rw is
       (record {
         underway =
-            underway_same w.underway (seen_from J n told t (last_into J n t (edge_count J))) (chain_skips J n told t (edge_count J));
-        t_marked = head_marked;
+            underway_same underway (seen_from J n told t (last_into J n t (edge_count J))) (chain_skips J n told t (edge_count J));
+        t_marked = marked;
         on_chain = chain_on J n told t (edge_count J) (le_refl (edge_count J));
-        longer = le_refl tail₀;
-        queue_kept = λ i g. refl;
       })
 
   pub walk_over :
-      {marks counts queue : List ℕ} {tail e : ℕ} → WalkingAt marks counts queue tail e → e ≡ 0
-      → Spreading J n all before marks counts queue tail (head + 1)
+      {marks counts waiting : List ℕ} {e : ℕ} → WalkingAt marks counts waiting e → e ≡ 0
+      → Underway J n all before (told_edge J n (told_too told t)) (told_too told t) marks counts waiting
   unfolding told_edge
-  walk_over {marks} {counts} {queue} {tail} {e} at z =
-      record {
-        head_le = let g = at.longer in omega arith;
-        underway =
-            underway_same at.underway (told_edge J n queue (head + 1))
-            (λ j g.
-            let u = edge_to J.structure j in
-            ap (λ b. eqb (owner J (edge_from J.structure j)) n && b)
-            (among_next (λ i. get_or queue i 0) head u
-            ∙ ap₂ ◌||◌
-            (among_same (λ i. get_or queue i 0) (λ i. get_or queue₀ i 0) head u (λ i h. at.queue_kept i (omega arith)))
-            (ap (λ x. eqb x u) (at.queue_kept head l)))
-            ∙ sym (ap (λ k. seen_from J n told t k j) z ∙ seen_all J n told t j));
-      }
+  walk_over at z =
+      underway_same at.underway (told_edge J n (told_too told t))
+      (λ j g. sym (ap (λ k. seen_from J n told t k j) z ∙ seen_all J n told t j))
 
   -- an edge of the walk, its source, and the edge behind it
-  module _ {marks counts queue : List ℕ} {tail j : ℕ} (at : WalkingAt marks counts queue tail (suc j)) where
+  module _ {marks counts waiting : List ℕ} {j : ℕ} (at : WalkingAt marks counts waiting (suc j)) where
     pub j_in : j < edge_count J
     j_in = (at.on_chain j refl).0
 
@@ -187,10 +151,10 @@ module _ {J : Job} {n : ℕ} {all : Bool} {before marks₀ counts₀ queue₀ : 
     mine : eqb (owner J (edge_from J.structure j)) n ≡ true
     mine = eq-eqb (owner J (edge_from J.structure j)) n j_ours
 
-    new : seen j ≡ false
-    new =
+    unseen : seen j ≡ false
+    unseen =
         seen_before J n told t (suc j) j (omega arith)
-        ∙ and_no_right (eqb (owner J (edge_from J.structure j)) n) (told (edge_to J.structure j)) (ap told j_target ∙ head_new)
+        ∙ and_no_right (eqb (owner J (edge_from J.structure j)) n) (told (edge_to J.structure j)) (ap told j_target ∙ new)
 
     others : (i : ℕ) → i < edge_count J → (i ≡ j → ⊥) → seen' i ≡ seen i
     others i g q =
@@ -203,14 +167,14 @@ module _ {J : Job} {n : ℕ} {all : Bool} {before marks₀ counts₀ queue₀ : 
         seen_from_lem J n told t (last_into J n t j) i p below ∙ sym (seen_from_lem J n told t (suc j) i p (omega arith)))
         (λ p. seen_elsewhere J n told t (last_into J n t j) i p ∙ sym (seen_elsewhere J n told t (suc j) i p)))
 
-    one_more : OneMore J n all before seen seen' marks counts queue tail j
+    one_more : OneMore J n all before seen seen' (told_too told t) marks counts waiting j
     one_more =
         record {
           job = job;
           underway = at.underway;
           inside = j_in;
           ours = j_ours;
-          new = new;
+          new = unseen;
           seen_now = seen_from_lem J n told t (last_into J n t j) j j_target (last_le J n t j) ∙ mine;
           others = others;
           target_marked = rw j_target at.t_marked;
@@ -222,26 +186,24 @@ module _ {J : Job} {n : ℕ} {all : Bool} {before marks₀ counts₀ queue₀ : 
     -- whether the source joins
     module _ (s : ℕ) (s_is : s ≡ edge_from J.structure j) (r : Bool)
         (r_is : r ≡ (eqb (get_or marks s 0) 1 && enough all (outs J.structure s) (get_or counts s 0 + 1))) where
-      pub walk_room : r ≡ true → tail < 256
+      pub walk_room : r ≡ true → length waiting < 256
       walk_room joins = turn_room one_more (rw s_is at (sym r_is ∙ joins))
 
       module _ (next : ℕ) (next_is : next ≡ last_into J (owner J (edge_from J.structure j)) (edge_to J.structure j) j) where
         next_on : next ≡ last_into J n t j
         next_on = next_is ∙ ap₂ (λ m u. last_into J m u j) j_ours j_target
 
-        pub walk_rest : r ≡ false → WalkingAt marks (set counts s (get_or counts s 0 + 1)) queue tail next
+        pub walk_rest : r ≡ false → WalkingAt marks (set counts s (get_or counts s 0 + 1)) waiting next
         walk_rest stays =
             rw (next_on, s_is)
             (record {
               underway = turn_rest one_more (rw s_is at (sym r_is ∙ stays));
               t_marked = at.t_marked;
               on_chain = chain_on J n told t j (omega (arith, j_in));
-              longer = at.longer;
-              queue_kept = at.queue_kept;
             })
 
         pub walk_push :
-            r ≡ true → WalkingAt (set marks s 2) (set counts s (get_or counts s 0 + 1)) (set queue tail s) (tail + 1) next
+            r ≡ true → WalkingAt (set marks s 2) (set counts s (get_or counts s 0 + 1)) (waiting ++ s ∷ []) next
         walk_push joins =
             let here = rw s_is at (sym r_is ∙ joins) in
             rw (next_on, s_is)
@@ -249,8 +211,4 @@ module _ {J : Job} {n : ℕ} {all : Bool} {before marks₀ counts₀ queue₀ : 
               underway = turn_push one_more here;
               t_marked = mark_stays one_more here t at.t_marked;
               on_chain = chain_on J n told t j (omega (arith, j_in));
-              longer = let g = at.longer in omega arith;
-              queue_kept =
-                  λ i g.
-                  get_or-set_other queue tail i (edge_from J.structure j) 0 (λ q. let h = at.longer in omega arith) ∙ at.queue_kept i g;
             })

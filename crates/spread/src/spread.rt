@@ -1,12 +1,13 @@
 // A set of states spreads against the edges of one node.
-ghost use Rattle.std.specs.Prelude.{◌≡◌, ◌&&◌, List, ℕ, ◌+◌, ◌<◌, eqb, length};
+ghost use Rattle.std.specs.Prelude.{◌≡◌, ◌&&◌, Bool, List, ℕ, ◌<◌, eqb, length};
 ghost use Rattle.job.specs.Job.{size};
 ghost use Rattle.job.specs.Rule.{quantifier};
 ghost use Rattle.image.specs.Denoted.{job_of};
 ghost use Rattle.spread.specs.Spread.{mark_number, numbers, Joinable, Spread};
-ghost use Rattle.spread.specs.Underway.{enough, outs, in_set, Lists, Spreading};
+ghost use Rattle.spread.specs.Underway.{enough, outs, none_told, told_too, Spreading, Taken};
 
 use crate::mark::Mark;
+use arrayvec::ArrayVec;
 use image::image::Image;
 
 // Whether state s, with that mark, joins: all its edges are told, or some, of the number that is given.
@@ -23,71 +24,70 @@ fn joins(m: &Image, all: bool, s: usize, mark: Mark, told: u16) -> bool
     0 < told
 }
 
-// Queues the states of node n's fragment that are in the set before any is told, since every state that may join
-// has an edge out to wait for. Returns how many these are.
-fn start(m: &Image, n: usize, marks: &[Mark; 256], queue: &mut [u8; 256]) -> usize
-    requires n_bound { n < (job_of m.now).nodes }
-    requires queue_len { length queue.old ≡ 256 }
-    ensures { Lists (in_set (job_of m.now) n (numbers marks.now)) (size (job_of m.now)) queue.new result }
-{
-    let mut tail = 0;
-    for i in 0..m.fragment_size(n) {
-        let s = m.fragment_state(n, i);
-        if marks[s] == Mark::In {
-            queue[tail] = s as u8;
-            tail += 1;
-        }
-    }
-    tail
+// A set that spreads: the marks, how many told edges leave each state, and the states in the set whose predecessors are still to be told.
+// Each state of a fragment waits at most once, so there is room for all. The arrays are as long as a job may be: there is no heap.
+#[derive(Drop)]
+struct Worklist {
+    marks: [Mark; 256],
+    counts: [u16; 256],
+    waiting: ArrayVec<u8, 256>,
 }
 
-// Tells the predecessors of the state at the queue's head that it is in the set: walks node n's edges into it, from the last to the
-// first, counts each at its source, and marks and queues a source that has enough. Returns the queue's new end.
-fn tell(
-    m: &Image,
-    n: usize,
-    all: bool,
-    head: usize,
-    old: usize,
-    marks: &mut [Mark; 256],
-    counts: &mut [u16; 256],
-    queue: &mut [u8; 256],
-) -> usize
-    requires n_bound { (n < (job_of m.now).nodes) × (head < old) }
-    requires by_index { (before : List ℕ) × Spreading (job_of m.now) n all before (numbers marks.old) counts.old queue.old old head }
-    ensures { (before : List ℕ)
-        → Spreading (job_of m.now) n all before (numbers marks.old) counts.old queue.old old head
-        → Spreading (job_of m.now) n all before (numbers marks.new) counts.new queue.new result (head + 1) }
-{
-    let mut tail = old;
-    let mut next = m.last_into(n, queue[head] as usize);
-    while let Some(e) = next {
-        let s = m.source(e);
-        let told = counts[s] + 1;
-        counts[s] = told;
-        if joins(m, all, s, marks[s], told) {
-            marks[s] = Mark::In;
-            queue[tail] = s as u8;
-            tail += 1;
+impl Worklist {
+    // The states of node n's fragment that are in the set wait before any is told: a state that may join has an edge out to wait for.
+    fn start(m: &Image, n: usize, marks: &[Mark; 256]) -> Self
+        requires n_bound { n < (job_of m.now).nodes }
+        requires marks_len { length (numbers marks.now) ≡ 256 }
+        ensures { (all : Bool) → Spreading (job_of m.now) n all (numbers marks.now) none_told result }
+    {
+        let mut waiting = ArrayVec::new();
+        for &state in m.fragment(n) {
+            let s = usize::from(state);
+            if marks[s] == Mark::In {
+                waiting.push(s as u8);
+            }
         }
-        next = m.next_into(e);
+        Worklist {
+            marks: *marks,
+            counts: [0; 256],
+            waiting,
+        }
     }
-    tail
+
+    // Tells the predecessors of state t that it is in the set: walks node n's edges into it, from the last to the first, counts each at
+    // its source, and marks a source that has enough, which then waits.
+    fn tell(&mut self, m: &Image, n: usize, all: bool, t: usize)
+        requires n_bound { n < (job_of m.now).nodes }
+        requires taken { (before : List ℕ) × (told : ℕ → Bool) × Taken (job_of m.now) n all before told t self.old }
+        ensures { (before : List ℕ) (told : ℕ → Bool)
+            → Taken (job_of m.now) n all before told t self.old
+            → Spreading (job_of m.now) n all before (told_too told t) self.new }
+    {
+        let mut next = m.last_into(n, t);
+        // a chain and no list: each edge tells the one before it
+        while let Some(e) = next {
+            let s = m.source(e);
+            let told = self.counts[s] + 1;
+            self.counts[s] = told;
+            if joins(m, all, s, self.marks[s], told) {
+                self.marks[s] = Mark::In;
+                self.waiting.push(s as u8);
+            }
+            next = m.next_into(e);
+        }
+    }
 }
 
 // Puts in the states of the least set in which each state that is in is, and each that may join of which all successors
-// are, or some. Each state of node n's fragment enters the queue at most once, so each of its edges is walked at most once.
+// are, or some. Each state of node n's fragment waits at most once, so each of its edges is walked at most once.
 pub fn spread(m: &Image, n: usize, all: bool, marks: &mut [Mark; 256])
     requires n_bound { n < (job_of m.now).nodes }
     requires joinable { Joinable (job_of m.now) n (numbers marks.old) }
     ensures { Spread (job_of m.now).structure (quantifier all) (numbers marks.old) (numbers marks.new) }
 {
-    let mut queue = [0u8; 256];
-    let mut counts = [0u16; 256];
-    let mut tail = start(m, n, marks, &mut queue);
-    let mut head = 0;
-    while head < tail {
-        tail = tell(m, n, all, head, tail, marks, &mut counts, &mut queue);
-        head += 1;
+    let mut list = Worklist::start(m, n, marks);
+    while let Some(t) = list.waiting.pop() {
+        list.tell(m, n, all, usize::from(t));
     }
+    *marks = list.marks;
 }

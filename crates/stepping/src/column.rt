@@ -1,9 +1,7 @@
 // The step of one column, by its subformula's rule.
-ghost use Rattle.std.specs.Prelude.{◌<◌};
-ghost use Rattle.job.specs.Job.{subformula_count};
 ghost use Rattle.job.specs.Rule.{InRange};
 ghost use Rattle.image.specs.Denoted.{job_of};
-ghost use Rattle.table.specs.Lent.{Ready};
+ghost use Rattle.table.specs.Lent.{Ready, IsColumn};
 ghost use Rattle.table.specs.Filling.{Leaves};
 ghost use Rattle.table.specs.Column.{step_by};
 
@@ -15,7 +13,8 @@ use values::column::fill_values;
 // The empty cells of node n and subformula k take their values by a rule. Returns how many take one.
 pub fn step_column(m: &Image, table: &mut [u8], n: usize, k: usize, rule: Rule) -> usize
     requires ready { Ready m.now table.old }
-    requires n_bound { (n < (job_of m.now).nodes) × (k < subformula_count (job_of m.now)) × InRange k rule }
+    requires column { IsColumn (job_of m.now) n k }
+    requires in_range { InRange k rule }
     ensures { Leaves table.old (step_by (job_of m.now) n k rule table.old) table.new result }
 {
     let Rule::Sets(growth) = rule else {

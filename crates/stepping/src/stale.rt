@@ -36,9 +36,9 @@ fn bears(pending: &Pending, n: usize, k: usize, rule: Rule) -> bool
     match rule {
         Rule::Atom(_) => false,
         Rule::Not(a) => pending.is_stale(n, a),
-        Rule::And(a, b) => pending.is_stale(n, a) | pending.is_stale(n, b),
+        Rule::And(a, b) => pending.is_stale(n, a) || pending.is_stale(n, b),
         Rule::Next(_, a) => pending.is_stale(n, a),
-        Rule::Sets(g) => asks_stale(pending, n, g.start) | asks_stale(pending, n, g.grow),
+        Rule::Sets(g) => asks_stale(pending, n, g.start) || asks_stale(pending, n, g.grow),
     }
 }
 

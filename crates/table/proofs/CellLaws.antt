@@ -1,8 +1,7 @@
 -- One cell: its byte, and filling it. Assumes nothing.
-use Prim.Native.Nat.{ℕ, zero, suc, ◌+◌, ◌*◌, ◌<◌, ◌≤◌}
+use Prim.Native.Nat.{ℕ, zero, suc, ◌+◌, ◌*◌, ◌<◌}
 use mathlib.Core.Path.{◌≡◌, refl, sym, ◌∙◌, ap}
 use mathlib.Core.Bool.{Bool, true, false, cond, not, ◌&&◌}
-use native.Mathlib.Nat.{mul-le-mul}
 use native.Mathlib.Omega.{arith}
 use borrow.Author.Tests.{eqb-true, eq-eqb}
 use lib.ListN.{length, get_or, set, length-set}
@@ -12,7 +11,6 @@ use Rattle.law.specs.Bounded.{count}
 use Rattle.law.proofs.Bool.{split, cond_false}
 use Rattle.law.proofs.Bounded.{by_order, by_equal}
 use Rattle.job.specs.Job.{Job, size, subformula_count, owner}
-use Rattle.job.specs.Written.{IsJob}
 use Rattle.cells.specs.Fragment.{in_fragment}
 use Rattle.cells.specs.Table.{Table, table_length, index, node_of, state_of, subformula_of, cell, owner_cell, is_empty, inside, fill, filled}
 use Rattle.cells.specs.Close.{accept_table}
@@ -24,28 +22,14 @@ use Rattle.table.specs.Filling.{Leaves}
 use Rattle.table.proofs.Parts.{both_two}
 use Rattle.table.proofs.FillingLaws.{and_three}
 
--- No product on the way to a cell's byte is large.
-module _ (J : Job) (job : IsJob J) (n s k : ℕ) (here : IsCell J n s k) (states : ℕ) (a : states ≡ size J) where
-  pub row_small : (n * states ≤ 2048) × (n * states + s ≤ 2304)
-  row_small =
-      let up : n ≤ 8 = omega (arith, here.node_in, job.nodes.below) in
-      let wide : states ≤ 256 = omega (arith, job.states.below) in
-      let product : n * states ≤ 2048 = mul-le-mul up wide in
-      (product, omega (arith, here.state_in, job.states.below))
-
-  module _ (subformulas : ℕ) (b : subformulas ≡ subformula_count J) where
-    pub byte_small : ((n * states + s) * subformulas ≤ 73728) × ((n * states + s) * subformulas + k ≤ 73760)
-    byte_small =
-        let wide : subformulas ≤ 32 = omega (arith, job.subformulas.below) in
-        let product : (n * states + s) * subformulas ≤ 73728 = mul-le-mul row_small.1 wide in
-        (product, omega (arith, here.subformula_in, job.subformulas.below))
-
-    pub byte_is :
-        ((n * states + s) * subformulas + k ≡ index J n s k) × ((n * states + s) * subformulas + k < table_length J)
-    unfolding index
-    byte_is =
-        let is : (n * states + s) * subformulas + k ≡ index J n s k = rw (a, b) in
-        (is, rw is (index_lt J n s k here.node_in here.state_in here.subformula_in))
+-- A cell's byte, as its numbers give it.
+pub byte_is :
+    (J : Job) (n s k : ℕ) → IsCell J n s k → (states : ℕ) → states ≡ size J → (subformulas : ℕ) → subformulas ≡ subformula_count J
+    → ((n * states + s) * subformulas + k ≡ index J n s k) × ((n * states + s) * subformulas + k < table_length J)
+unfolding index
+byte_is J n s k here states a subformulas b =
+    let is : (n * states + s) * subformulas + k ≡ index J n s k = rw (a, b) in
+    (is, rw is (index_lt J n s k here.node_in here.state_in here.subformula_in))
 
 pub cell_is : (J : Job) (t : Table) (n s k i : ℕ) → i ≡ index J n s k → get_or t i 0 ≡ cell J t n s k
 unfolding cell

@@ -10,7 +10,7 @@ ghost use Rattle.table.specs.Filling.{Leaves};
 
 use image::image::Image;
 
-// The byte of a cell.
+// The byte of a cell. The table is a buffer of C's with a byte for each cell: 0, 1, or 2 where it is empty.
 pub fn cell_at(m: &Image, n: usize, s: usize, k: usize) -> usize
     requires { IsCell (job_of m.now) n s k }
     ensures { (result ≡ index (job_of m.now) n s k) × (result < table_length (job_of m.now)) }

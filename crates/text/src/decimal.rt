@@ -3,7 +3,7 @@ ghost use Rattle.std.specs.Prelude.{◌≡◌, ◌+◌, ◌*◌, ◌<◌, ◌≤
 ghost use Rattle.std.proofs.lemmas.List.Edits.{sets};
 ghost use Rattle.text.specs.Decimal.{digit_column, decimal, line, Short};
 
-// The byte in the column of weight p: a space before the number, or its digit.
+// The byte in the column of weight p: a space before the number, or its digit. By hand, as `write_field` is.
 pub fn digit_column(n: usize, p: usize) -> u8
     requires { (0 < p) × (n < 100000) }
     ensures { result ≡ digit_column n p }

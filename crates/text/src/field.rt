@@ -1,4 +1,4 @@
-// Reading: a number is five columns, spaces and then digits.
+// Reading: a number is five columns, spaces and then digits (document 01, "Job text").
 ghost use Rattle.std.specs.Prelude.{◌≡◌, ◌+◌, ◌≤◌, eqb, length, IfSome};
 ghost use Rattle.std.specs.List.{prefix_len};
 ghost use Rattle.text.specs.Field.{digits, field};
@@ -25,7 +25,7 @@ fn read_digits(first: usize, columns: &[u8]) -> Option<usize>
     Some(value)
 }
 
-// The number in the field at `at`, if the field is well-formed.
+// The number in the field at `at`, if the field is well-formed. A text and a place, since the definitions name a field by its place in the text.
 pub fn read_field(text: &[u8], at: usize) -> Option<usize>
     requires { at + 5 ≤ length text.now }
     ensures is { result ≡ field text.now at }

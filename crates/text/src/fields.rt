@@ -4,7 +4,7 @@ ghost use Rattle.text.specs.Fields.{line_numbers};
 
 use crate::field::read_field;
 
-// The numbers of the line of N fields at `at`, if it is well-formed.
+// The numbers of the line of N fields at `at`, if it is well-formed. A text and a place, as for a field.
 pub fn read_line<const N: usize>(text: &[u8], at: usize) -> Option<[usize; N]>
     requires { at + 5 * N < length text.now }
     ensures is { result ≡ line_numbers text.now at N }

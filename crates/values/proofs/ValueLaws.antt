@@ -1,17 +1,26 @@
 -- The value of one cell, by the tests of the code. Assumes nothing.
-use Prim.Native.Nat.{ℕ, suc, ◌+◌, ◌-◌, ◌/◌, ◌%◌, ◌^◌, ◌<◌, ◌≤◌}
+use Prim.Native.Nat.{ℕ, suc, ◌+◌, ◌-◌, ◌/◌, ◌%◌, ◌^◌, ◌<◌}
 use mathlib.Core.Path.{◌≡◌, refl, sym, ◌∙◌, ap, ap₂}
-use mathlib.Core.Bool.{Bool, beq, true, false, cond, not}
+use mathlib.Core.Bool.{Bool, true, false, cond, not}
 use mathlib.Core.Logic.{⊎_elim}
 use native.Mathlib.Nat.{mod-lt}
 use native.Mathlib.Numerals.{add-one}
 use native.Mathlib.Omega.{arith}
 use borrow.Author.Tests.{eq-eqb, ne_eqb, not-true, not-false}
+use mathlib.Core.List.{List}
 use lib.ListN.{get_or}
+use Rattle.std.specs.List.{list_all, list_any, range_with_len}
+use Rattle.std.proofs.lemmas.List.Elements.{All-from_get_or}
+use Rattle.std.proofs.lemmas.List.Folds.{list_all_at}
+use Rattle.std.proofs.lemmas.List.FromFn.{length-range_with_len, get_or-range_with_len}
+use Rattle.std.proofs.lemmas.List.Sums.{list_all-from_AllPass}
+use Rattle.law.specs.Bounded.{all, any}
+use Rattle.law.proofs.Bool.{split, clash, same_test}
+use Rattle.law.proofs.Ranges.{any_places}
 use lib.Dec.{eqb}
-use Rattle.law.proofs.Bounded.{by_order, by_equal, all_intro, all_fails, any_intro, any_none}
+use Rattle.law.proofs.Bounded.{by_equal, all_intro, all_elim, any_same}
 use Rattle.law.proofs.Lists.{tab_at}
-use Rattle.job.specs.Job.{Job, Structure, dual, over, size, atom}
+use Rattle.job.specs.Job.{Job, dual, over, size, atom}
 use Rattle.job.specs.Rule.{quantifier, InRange, IsSets}
 use Rattle.job.specs.Written.{IsJob, label}
 use Rattle.job.specs.declared.rule.Rule.{Rule}
@@ -28,83 +37,50 @@ use Rattle.image.proofs.Runs.{all_run, some_run}
 use Rattle.table.specs.Column.{cells_of}
 use Rattle.values.specs.Values.{value_at}
 
--- the code's test that two Bools differ
-differ : (x y : Bool) → not (beq x y) ≡ true → x ≡ not y
-differ true true e = sym e
-differ true false e = refl
-differ false true e = refl
-differ false false e = e
+-- A test of the numbers from a on, n of them, as the library's `all` and `any` over a range have it.
+module _ (p : ℕ → Bool) (a n : ℕ) where
+  abbrev numbers : List ℕ
+  numbers = range_with_len a n
 
-agree : (x y : Bool) → not (beq x y) ≡ false → x ≡ y
-agree true true e = refl
-agree true false e = e
-agree false true e = sym e
-agree false false e = refl
+  abbrev q : ℕ → Bool
+  q i = p (a + i)
 
--- All or some successors: an edge of the run decides, or all its edges are passed.
-module _ (J : Job) (job : IsJob J) (s : ℕ) (X : ℕ → Bool) where
-  abbrev M : Structure
-  M = J.structure
+  at_place : (i : ℕ) → i < n → p (get_or numbers i 0) ≡ q i
+  at_place i l = ap p (get_or-range_with_len a n i 0 l)
 
-  over_early :
-      (all : Bool) (e : ℕ) → first_edge M s ≤ e → e < first_edge M (suc s) → X (edge_to M e) ≡ not all → over M (quantifier all) s X ≡ not all
-  over_early true e l g h =
-      let here : first_edge M s + (e - first_edge M s) ≡ e = omega arith in
-      all_run J job s X
-      ∙ all_fails (λ d. X (edge_to M (first_edge M s + d))) (first_edge M (suc s) - first_edge M s) (e - first_edge M s) (omega arith)
-      (ap (λ i. X (edge_to M i)) here ∙ h)
-  over_early false e l g h =
-      let here : first_edge M s + (e - first_edge M s) ≡ e = omega arith in
-      some_run J job s X
-      ∙ any_intro (λ d. X (edge_to M (first_edge M s + d))) (first_edge M (suc s) - first_edge M s) (e - first_edge M s) (omega arith)
-      (ap (λ i. X (edge_to M i)) here ∙ h)
+  all_from : list_all p numbers ≡ all q n
+  all_from =
+      same_test (list_all p numbers) (all q n)
+      (λ yes.
+      all_intro q n
+      (λ i l.
+      split (q i) (λ e. e)
+      (λ no. clash (list_all p numbers) yes (list_all_at p numbers i 0 (omega (arith, length-range_with_len a n)) (at_place i l ∙ no)))))
+      (λ yes.
+      list_all-from_AllPass p numbers
+      (All-from_get_or (λ x. p x ≡ true) numbers 0
+      (λ i l. let g : i < n = omega (arith, length-range_with_len a n) in at_place i g ∙ all_elim q n yes i g)))
 
-  over_passed :
-      (all : Bool) → ((d : ℕ) → first_edge M s ≤ d → d < first_edge M (suc s) → X (edge_to M d) ≡ all) → over M (quantifier all) s X ≡ all
-  over_passed true h =
-      all_run J job s X
-      ∙ all_intro (λ d. X (edge_to M (first_edge M s + d))) (first_edge M (suc s) - first_edge M s)
-      (λ d l. h (first_edge M s + d) (omega arith) (omega arith))
-  over_passed false h =
-      some_run J job s X
-      ∙ any_none (λ d. X (edge_to M (first_edge M s + d))) (first_edge M (suc s) - first_edge M s)
-      (λ d l. h (first_edge M s + d) (omega arith) (omega arith))
+  any_from : list_any p numbers ≡ any q n
+  any_from =
+      any_places p numbers 0
+      ∙ ap (any (λ i. p (get_or numbers i 0))) (length-range_with_len a n)
+      ∙ any_same (λ i. p (get_or numbers i 0)) q n at_place
 
--- The loop over the edges out of s: the cells at the ends of those before e have agreed.
-abbrev pub Agreed : Job → Table → ℕ → ℕ → ℕ → Bool → ℕ → ℕ → Type 0
-Agreed J t n a v all from e = (d : ℕ) → from ≤ d → d < e → eqb (cell J t n (edge_to J.structure d) a) v ≡ all
+-- All or some of the edges out of s lead to a state that passes.
+module _ (J : Job) (job : IsJob J) (s : ℕ) (X : ℕ → Bool) (from end : ℕ) (first : from ≡ first_edge J.structure s)
+    (last : end ≡ first_edge J.structure (s + 1)) where
+  abbrev passes : ℕ → Bool
+  passes e = X (edge_to J.structure e)
 
-module _ (J : Job) (job : IsJob J) (t : Table) (n s a v : ℕ) (all : Bool) (from end e : ℕ) where
-  abbrev meets : ℕ → Bool
-  meets u = eqb (cell J t n u a) v
+  many : end - from ≡ first_edge J.structure (suc s) - first_edge J.structure s
+  many = let close = ap (first_edge J.structure) (add-one s) in omega arith
 
-  -- the edge e
-  module _ (u c : ℕ) (target : u ≡ edge_to J.structure e) (is : c ≡ cell J t n u a) where
-    read : eqb c v ≡ meets (edge_to J.structure e)
-    read = ap (λ x. eqb x v) (is ∙ ap (λ x. cell J t n x a) target)
+  pub met_all : (for_all : Bool) → for_all ≡ true → list_all passes (range_with_len from (end - from)) ≡ over J.structure (quantifier for_all) s X
+  met_all for_all e = rw (e, many, first) (all_from passes _ _ ∙ sym (all_run J job s X))
 
-    pub met_early :
-        from ≡ first_edge J.structure s → end ≡ first_edge J.structure (s + 1) → from ≤ e → e < end
-        → not (beq (eqb c v) all) ≡ true
-        → not all ≡ over J.structure (quantifier all) s meets
-    met_early first last l g h =
-        let close : end ≡ first_edge J.structure (suc s) = last ∙ ap (first_edge J.structure) (add-one s) in
-        sym (over_early J job s meets all e (omega arith) (omega arith) (sym read ∙ differ (eqb c v) all h))
-
-    pub met_more :
-        Agreed J t n a v all from e → not (beq (eqb c v) all) ≡ false → Agreed J t n a v all from (e + 1)
-    met_more so h d l g =
-        by_order d e (so d l)
-        (λ m.
-        let same : d ≡ e = omega arith in
-        ap (λ x. meets (edge_to J.structure x)) same ∙ sym read ∙ agree (eqb c v) all h)
-
-  pub met_over :
-      from ≡ first_edge J.structure s → end ≡ first_edge J.structure (s + 1) → end ≤ e → Agreed J t n a v all from e
-      → all ≡ over J.structure (quantifier all) s meets
-  met_over first last l so =
-      let close : end ≡ first_edge J.structure (suc s) = last ∙ ap (first_edge J.structure) (add-one s) in
-      sym (over_passed J job s meets all (λ d m g. so d (omega arith) (omega arith)))
+  pub met_some : (for_all : Bool) → for_all ≡ false → list_any passes (range_with_len from (end - from)) ≡ over J.structure (quantifier for_all) s X
+  met_some for_all e = rw (e, many, first) (any_from passes _ _ ∙ sym (some_run J job s X))
 
 quantifier_not : (all : Bool) → quantifier (not all) ≡ dual (quantifier all)
 unfolding dual

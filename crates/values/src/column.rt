@@ -1,9 +1,8 @@
 // The column of a rule that needs no sets.
-ghost use Rattle.std.specs.Prelude.{◌<◌, ◌≡◌};
-ghost use Rattle.job.specs.Job.{subformula_count};
+ghost use Rattle.std.specs.Prelude.{◌≡◌};
 ghost use Rattle.job.specs.Rule.{InRange, IsSets};
 ghost use Rattle.image.specs.Denoted.{job_of};
-ghost use Rattle.table.specs.Lent.{Lent, IsCell};
+ghost use Rattle.table.specs.Lent.{Lent, IsCell, IsColumn};
 ghost use Rattle.table.specs.Filling.{Leaves};
 ghost use Rattle.values.specs.Values.{empty_values};
 ghost use Rattle.table.specs.Column.{step_by};
@@ -18,7 +17,8 @@ use table::column::fill_column;
 #[tactic(auto, unfolding(cells::specs::Table::is_empty))]
 fn empty_value(m: &Image, table: &[u8], n: usize, s: usize, k: usize, rule: Rule) -> u8
     requires lent { Lent m.now table.now }
-    requires cell { IsCell (job_of m.now) n s k × InRange k rule }
+    requires cell { IsCell (job_of m.now) n s k }
+    requires rule { InRange k rule }
     ensures { result ≡ empty_values (job_of m.now) table.now n rule n s k }
 {
     if cell(m, table, n, s, k) != 2 {
@@ -28,9 +28,11 @@ fn empty_value(m: &Image, table: &[u8], n: usize, s: usize, k: usize, rule: Rule
 }
 
 // The empty cells of node n and subformula k take the values of its rule. They are filled in place: the rule reads smaller subformulas alone.
+// The other callers of `fill_column` are no twins: each has values of its own.
 pub fn fill_values(m: &Image, table: &mut [u8], n: usize, k: usize, rule: Rule) -> usize
     requires lent { Lent m.now table.old }
-    requires n_bound { (n < (job_of m.now).nodes) × (k < subformula_count (job_of m.now)) × InRange k rule × (IsSets rule → ⊥) }
+    requires column { IsColumn (job_of m.now) n k }
+    requires rule { InRange k rule × (IsSets rule → ⊥) }
     ensures { Leaves table.old (step_by (job_of m.now) n k rule table.old) table.new result }
 {
     fill_column(

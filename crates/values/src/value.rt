@@ -1,11 +1,11 @@
 // What the step has for one cell, by the rules that need no sets.
-ghost use Rattle.std.specs.Prelude.{◌≡◌, ◌<◌, eqb};
-ghost use Rattle.job.specs.Job.{size, subformula_count, over};
+ghost use Rattle.std.specs.Prelude.{◌≡◌, eqb};
+ghost use Rattle.job.specs.Job.{subformula_count, over};
 ghost use Rattle.job.specs.Rule.{quantifier, InRange};
 ghost use Rattle.cells.specs.Table.{cell as cell_of};
 ghost use Rattle.cells.specs.Step.{opposite as opposite_of, both as both_of, next as next_of};
 ghost use Rattle.image.specs.Denoted.{job_of};
-ghost use Rattle.table.specs.Lent.{Lent, IsCell};
+ghost use Rattle.table.specs.Lent.{Lent, IsRow, IsCell};
 ghost use Rattle.table.specs.Column.{cells_of};
 ghost use Rattle.values.specs.Values.{value_at};
 
@@ -14,7 +14,7 @@ use image::place::Place;
 use job::rule::Rule;
 use table::cell::cell;
 
-// The other value of a filled cell.
+// The other value of a filled cell. Told by cases, since a lent cell may hold any byte, at which 1 - a would wrap.
 #[tactic(auto, unfolding(cells::specs::Step::opposite, cells::specs::Table::is_empty))]
 fn opposite(a: u8) -> u8
     ensures { result ≡ opposite_of a }
@@ -26,7 +26,7 @@ fn opposite(a: u8) -> u8
     }
 }
 
-// True if both are true, false if either is false, else empty.
+// True if both are true, false if either is false, else empty. No `min`, since empty is 2, above true.
 #[tactic(auto, unfolding(cells::specs::Step::both))]
 fn both(a: u8, b: u8) -> u8
     ensures { result ≡ both_of a b }
@@ -44,13 +44,13 @@ fn meets(m: &Image, table: &[u8], n: usize, s: usize, all: bool, a: usize, v: u8
     requires cell { IsCell (job_of m.now) n s a }
     ensures { result ≡ over (job_of m.now).structure (quantifier all) s (λ u. eqb (cell_of (job_of m.now) table.now n u a) v) }
 {
-    for e in m.first_edge(s)..m.first_edge(s + 1) {
-        let u = m.target(e);
-        if (cell(m, table, n, u, a) == v) != all {
-            return !all;
-        }
+    let mut edges = m.first_edge(s)..m.first_edge(s + 1);
+    let meets = |e| cell(m, table, n, m.target(e), a) == v;
+    if all {
+        edges.all(meets)
+    } else {
+        edges.any(meets)
     }
-    all
 }
 
 // For AX, where `all`, or EX. A border state stays empty.
@@ -74,7 +74,8 @@ fn next(m: &Image, table: &[u8], n: usize, s: usize, all: bool, a: usize) -> u8
 // The value for state s of node n, where 2 leaves a cell empty. A rule that needs sets has none here.
 pub fn value(m: &Image, table: &[u8], n: usize, s: usize, rule: Rule) -> u8
     requires lent { Lent m.now table.now }
-    requires n_bound { (n < (job_of m.now).nodes) × (s < size (job_of m.now)) × InRange (subformula_count (job_of m.now)) rule }
+    requires row { IsRow (job_of m.now) n s }
+    requires rule { InRange (subformula_count (job_of m.now)) rule }
     ensures { result ≡ value_at (job_of m.now) n (cells_of (job_of m.now) table.now n) rule s }
 {
     match rule {

@@ -1,5 +1,5 @@
 -- `steps`: the nodes passed so far are stepped.
-use Prim.Native.Nat.{◌+◌, ◌<◌}
+use Prim.Native.Nat.{◌+◌}
 use Rattle.cells.specs.Finish.{steps_up_to}
 use Rattle.image.specs.Denoted.{job_of}
 use Rattle.exchange.specs.Running.{Ran}
@@ -11,12 +11,8 @@ use Rattle.exchange.proofs.steps.Goals.{After-step_stale-filled}
 pub loop-n-init : goal.loop-n-init
 loop-n-init c = (omega arith, c.nodes-n-end.ensures.0, ran_none c.requires)
 
-pub step_stale-filled-requires : goal.step_stale-filled-requires
-step_stale-filled-requires c =
-    let l = c.loop-n in
-    let under : l.n < (job_of c.args.m.now).nodes = omega (arith, c.loop-n.invariant.1) in
-    let right = l.invariant.2.tracked in
-    record { ready = stepped_ready c.requires l.n l.invariant.2; n_bound = under; rested = right.rested l.n under }
+pub step_stale-filled-requires-clause-ready : goal.step_stale-filled-requires-clause-ready
+step_stale-filled-requires-clause-ready c = stepped_ready c.requires _ c.loop-n.invariant.2
 
 -- after the step of a node
 module _ (c : After-step_stale-filled) where

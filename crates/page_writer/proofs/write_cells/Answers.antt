@@ -9,7 +9,7 @@ use Rattle.page_writer.proofs.write_cells.Goals.{After-subformulas}
 within : (c : After-subformulas) → c.cell_at-first.result + c.subformulas.result ≤ length c.args.table.now
 within c =
     let a = c.args in
-    run_inside a.m.now a.table.now c.requires.ready a.n a.s c.requires.n_bound.0 c.requires.n_bound.1 _ _ c.cell_at-first.ensures.0 c.subformulas.ensures.0
+    run_inside a.m.now a.table.now c.requires.ready a.n a.s c.requires.row.node_in c.requires.row.state_in _ _ c.cell_at-first.ensures.0 c.subformulas.ensures.0
 
 pub slice_bounds-cell-items-end : goal.slice_bounds-cell-items-end
 slice_bounds-cell-items-end c = let fits = within (goal.at.slice_bounds-cell-items-end c).After-subformulas in search (rules, fits)
@@ -17,7 +17,7 @@ slice_bounds-cell-items-end c = let fits = within (goal.at.slice_bounds-cell-ite
 pub mark-requires : goal.mark-requires
 mark-requires c =
     let a = c.args in
-    run_low a.m.now a.table.now c.requires.ready a.n a.s c.requires.n_bound.0 c.requires.n_bound.1 _ c.loop-k.k _ c.cell_at-first.ensures.0
+    run_low a.m.now a.table.now c.requires.ready a.n a.s c.requires.row.node_in c.requires.row.state_in _ c.loop-k.k _ c.cell_at-first.ensures.0
     (omega (arith, length-take {A = ℕ}))
 
 pub loop-k-preserved : goal.loop-k-preserved

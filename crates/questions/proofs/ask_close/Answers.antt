@@ -1,7 +1,5 @@
 -- `ask_close`: 9 and 10, then 19, 20.
-use Prim.Native.Nat.{◌≤◌, ◌<◌}
 use mathlib.Core.Path.{refl, sym, ◌∙◌}
-use Rattle.job.specs.Job.{subformula_count}
 use Rattle.cells.specs.Calls.{own_questions}
 use Rattle.image.specs.Denoted.{job_of}
 use Rattle.table.specs.Lent.{Ready}
@@ -10,7 +8,6 @@ use Rattle.job.proofs.RefusedLaws.{numbered}
 use Rattle.questions.proofs.NoLaws.{table_first, table_ready, close_number, open_asked}
 use Rattle.std.proofs.Common.{◌≡◌, is_some}
 use Rattle.cells.specs.Close.{some_open}
-use native.Mathlib.Omega.{arith}
 use Rattle.questions.proofs.ask_close.Goals as goal
 use Rattle.questions.proofs.ask_close.Goals.{In_ok-ask_table, After-smallest_open}
 

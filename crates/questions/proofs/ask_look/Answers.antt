@@ -50,9 +50,6 @@ module _ (c : Else-not-are_in) where
   read_in : node_read (job_of c.args.m.now) c.args.n c.args.s < (job_of c.args.m.now).nodes
   read_in = read_below (job_of c.args.m.now) (image_job c.args.m.now) _ _ (yes_11 (goal.at.Else-not-are_in c).Else-not-is_node) state_in
 
-pub node_read-requires : goal.node_read-requires
-node_read-requires c = (state_in (goal.at.node_read-requires c).Else-not-are_in)
-
 pub place-requires : goal.place-requires
 place-requires c = (rw c.node_read.ensures (read_in (goal.at.place-requires c).Else-not-are_in), state_in (goal.at.place-requires c).Else-not-are_in)
 

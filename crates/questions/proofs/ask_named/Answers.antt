@@ -6,7 +6,6 @@ use Rattle.job.specs.Job.{size, subformula_count}
 use Rattle.cells.specs.Close.{is_temporal}
 use Rattle.image.specs.Denoted.{job_of}
 use Rattle.job.specs.Rule.{temporal, rule_of}
-use Rattle.cells.proofs.CallLaws.{numbers_in}
 use Rattle.questions.proofs.NoLaws.{named_number}
 use Rattle.questions.proofs.ask_named.Goals as goal
 use Rattle.questions.proofs.ask_named.Goals.{After-is_temporal, Else-not-are_in}
@@ -19,9 +18,6 @@ yes_12 :
     → let a = c.args in
     (ltb a.s (size (job_of a.m.now)) && ltb a.k (subformula_count (job_of a.m.now))) ≡ true
 yes_12 c = sym c.are_in.ensures ∙ c.if-not-are_in.false
-
-pub subformula-requires : goal.subformula-requires
-subformula-requires c = (numbers_in _ _ _ (yes_12 (goal.at.subformula-requires c).Else-not-are_in)).1
 
 temporal_here :
     (c : After-is_temporal)

@@ -1,10 +1,14 @@
 -- `lay_chains`: the chains of the edges passed so far.
 use Prim.Native.Nat.{◌≤◌}
 use mathlib.Core.Path.{◌≡◌}
+use lib.ListN.{length}
 use Rattle.job.specs.Written.{edge_count}
-use Rattle.image.specs.Image.{words_job}
-use Rattle.decoding.specs.Laid.{Chains}
+use Rattle.image.specs.Lines.{lines_job}
+use Rattle.image.specs.Image.{Chains}
+use Rattle.decoding.proofs.ChainLaws.{Rows}
 use Rattle.decoding.proofs.decode.lay_chains.Given as goal
 
 abbrev pub invariant-loop-e : goal.invariant-loop-e
-invariant-loop-e l = (l.edges ≤ 2048) × (l.edges ≡ edge_count (words_job l.initial.m)) × Chains (words_job l.initial.m) l.e l.initial.m l.m
+invariant-loop-e l =
+    ((l.lines.header.edges ≡ edge_count (lines_job l.lines)) × (l.lines.header.edges ≤ 2048)) × Rows l.last × (length l.next ≡ 2048)
+    × Chains (lines_job l.lines) l.e l.last l.next

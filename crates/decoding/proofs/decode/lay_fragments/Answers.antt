@@ -1,20 +1,31 @@
 -- `lay_fragments`: the nodes passed so far have their fragments.
-use Rattle.image.specs.Image.{words_job}
-use Rattle.decoding.specs.Laid.{Chained}
-use Rattle.decoding.proofs.FragmentLaws.{fragments_more, chained_kept, chained_own}
+use mathlib.Core.Path.{refl, sym, ◌∙◌, subst}
+use mathlib.Core.List.{[]}
 use native.Mathlib.Omega.{arith}
+use borrow.Author.Count.{below_none, below_more}
+use lib.ListN.{length-set}
+use lib.Seq.{get_or-set_same, get_or-set_other}
+use Rattle.image.specs.Lines.{lines_job}
+use Rattle.image.specs.Image.{IsFragment}
+use Rattle.image.proofs.LinesLaws.{nodes_read}
 use Rattle.decoding.proofs.decode.lay_fragments.Goals as goal
-use Rattle.decoding.proofs.decode.lay_fragments.Goals.{In-loop-n}
 
-chained : (c : In-loop-n) → Chained (words_job c.args.m.now) c.loop-n.m
-chained c =
-    let l = c.loop-n.invariant in
-    chained_kept _ c.args.m.now c.loop-n.m c.requires l.long l.below
-
-pub lay_fragment-requires : goal.lay_fragment-requires
-lay_fragment-requires c = record { chained = chained_own _ c.loop-n.m (chained (goal.at.lay_fragment-requires c).In-loop-n); n_bound = omega arith }
+pub loop-n-init : goal.loop-n-init
+loop-n-init c =
+    let w = nodes_read c.args.lines.now c.requires.is_job _ refl in
+    ((w.0, w.2), c.told-fragments, below_none _)
 
 pub loop-n-preserved : goal.loop-n-preserved
 loop-n-preserved c =
     let l = c.loop-n in
-    fragments_more _ c.args.m.now l.n l.m _ (chained (goal.at.loop-n-preserved c).In-loop-n) (omega arith) l.invariant c.lay_fragment.ensures
+    let J = lines_job c.args.lines.now in
+    let f = c.fragment_of.result in (
+      l.invariant.0,
+      length-set l.fragments l.n f ∙ l.invariant.1,
+      below_more _ l.n
+          (λ n g. subst (IsFragment J n) (sym (get_or-set_other l.fragments l.n n f (record { places = []; size = 0; states = [] }) (λ q. omega arith))) (l.invariant.2 n g))
+          (subst (IsFragment J l.n) (sym (get_or-set_same l.fragments l.n f (record { places = []; size = 0; states = [] }) (omega (arith, l.invariant.0, l.invariant.1)))) c.fragment_of.ensures),
+    )
+
+pub returns : goal.returns
+returns c = λ n g. c.loop-n.invariant.2 n (omega (arith, c.loop-n.invariant.0))

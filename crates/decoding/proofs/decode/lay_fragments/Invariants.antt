@@ -1,7 +1,11 @@
 -- `lay_fragments`: the nodes passed so far have their fragments.
-use Rattle.image.specs.Image.{words_job}
-use Rattle.decoding.specs.Laid.{Fragments}
+use Prim.Native.Nat.{◌≤◌}
+use mathlib.Core.Path.{◌≡◌}
+use lib.ListN.{length}
+use Rattle.image.specs.Lines.{lines_job}
+use Rattle.image.specs.Image.{Fragments}
 use Rattle.decoding.proofs.decode.lay_fragments.Given as goal
 
 abbrev pub invariant-loop-n : goal.invariant-loop-n
-invariant-loop-n l = Fragments (words_job l.initial.m) l.n l.initial.m l.m
+invariant-loop-n l =
+    ((l.lines.header.nodes ≡ (lines_job l.lines).nodes) × (l.lines.header.nodes ≤ 8)) × (length l.fragments ≡ 8) × Fragments (lines_job l.lines) l.n l.fragments

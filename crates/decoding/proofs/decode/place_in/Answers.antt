@@ -1,29 +1,29 @@
 -- `place_in`: the owner, and then the end of the chain, say which place it is.
 use mathlib.Core.Path.{◌≡◌, sym, ◌∙◌}
+use native.Mathlib.Omega.{arith}
 use Rattle.job.specs.Job.{owner}
-use Rattle.image.specs.Image.{words_job}
-use Rattle.image.proofs.ImageLaws.{owner_read}
-use Rattle.decoding.proofs.ChainLaws.{place_own, place_none, place_reached}
+use Rattle.image.specs.Lines.{lines_job}
+use Rattle.image.proofs.LinesLaws.{owner_read}
+use Rattle.decoding.proofs.PlaceLaws.{place_own, place_none, place_reached}
 use Rattle.decoding.proofs.decode.place_in.Goals as goal
-use Rattle.decoding.proofs.decode.place_in.Goals.{After-word, Else-word-n}
+use Rattle.decoding.proofs.decode.place_in.Goals.{After-from, Else-from-n}
 
-owner_here : (c : After-word) → c.word.result ≡ owner (words_job c.args.m.now) c.args.s
-owner_here c =
-    (owner_read _ c.args.m.now c.requires.chained.denotes c.args.s c.requires.n_bound.1 c.word.result c.word.ensures.0).0
+owner_here : (c : After-from) → c.from.result ≡ owner (lines_job c.args.lines.now) c.args.s
+owner_here c = (owner_read c.args.lines.now c.requires.is_job c.args.s c.requires.s_bound _ c.from.ensures).0
 
-pub returns-then-word-n : goal.returns-then-word-n
-returns-then-word-n c =
-    sym (place_own (words_job c.args.m.now) c.requires.chained.denotes.is_job c.args.n c.args.s c.requires.n_bound.1 (sym (owner_here (goal.at.returns-then-word-n c).After-word) ∙ c.if-word-n.true))
+pub returns-then-from-n : goal.returns-then-from-n
+returns-then-from-n c =
+    sym (place_own _ c.requires.is_job c.args.n c.args.s c.requires.s_bound (sym (owner_here (goal.at.returns-then-from-n c).After-from) ∙ c.if-from-n.true))
 
-not_owned : (c : Else-word-n) → owner (words_job c.args.m.now) c.args.s ≡ c.args.n → ⊥
-not_owned c e = c.if-word-n.false (owner_here (goal.at.Else-word-n c).After-word ∙ e)
+not_owned : (c : Else-from-n) → owner (lines_job c.args.lines.now) c.args.s ≡ c.args.n → ⊥
+not_owned c e = c.if-from-n.false (owner_here (goal.at.Else-from-n c).After-from ∙ e)
 
-pub returns-then-word-eq0 : goal.returns-then-word-eq0
-returns-then-word-eq0 c =
-    let last = c.requires.chained.last_at c.args.n c.args.s c.requires.n_bound.0 c.requires.n_bound.1 in
-    sym (place_none (words_job c.args.m.now) c.requires.chained.denotes.is_job c.args.n c.args.s (not_owned (goal.at.returns-then-word-eq0 c).Else-word-n) (sym last ∙ sym c.word-2.ensures.0 ∙ c.if-word-eq0.true))
+pub returns-then-last-s-eq0 : goal.returns-then-last-s-eq0
+returns-then-last-s-eq0 c =
+    let last = c.requires.ends c.args.s (omega (arith, c.requires.is_job.states, c.requires.s_bound)) in
+    sym (place_none _ c.requires.is_job c.args.n c.args.s (not_owned (goal.at.returns-then-last-s-eq0 c).Else-from-n) (sym last ∙ c.if-last-s-eq0.true))
 
 pub returns : goal.returns
 returns c =
-    let last = c.requires.chained.last_at c.args.n c.args.s c.requires.n_bound.0 c.requires.n_bound.1 in
-    sym (place_reached (words_job c.args.m.now) c.requires.chained.denotes.is_job c.args.n c.args.s (not_owned (goal.at.returns c).Else-word-n) (λ e. c.if-word-eq0.false (c.word-2.ensures.0 ∙ last ∙ e)))
+    let last = c.requires.ends c.args.s (omega (arith, c.requires.is_job.states, c.requires.s_bound)) in
+    sym (place_reached _ c.requires.is_job c.args.n c.args.s (not_owned (goal.at.returns c).Else-from-n) (λ e. c.if-last-s-eq0.false (last ∙ e)))

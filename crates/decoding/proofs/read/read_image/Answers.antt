@@ -1,30 +1,25 @@
 -- `read_image`: the image, where the reader accepts.
-use mathlib.Core.Path.{◌≡◌, refl, sym, ap, ◌∙◌}
+use mathlib.Core.Path.{◌≡◌, sym, ◌∙◌, ap, subst}
 use Rattle.std.proofs.Common.{Ok}
 use Rattle.job.specs.Read.{read_told, read_answer}
-use Rattle.job.proofs.ReadLaws.{text_accepted}
-use Rattle.decoding.proofs.LaidLaws.{denotes_own}
-use Rattle.decoding.proofs.TextLaws.{job_laid, unlaid}
+use Rattle.job.specs.Written.{IsJob}
+use Rattle.job.proofs.Agrees.{passed_job}
+use Rattle.job.proofs.ReadLaws.{read_passed, text_accepted}
+use Rattle.image.specs.Lines.{lines_job}
 use Rattle.decoding.proofs.read.read_image.Goals as goal
-use Rattle.decoding.proofs.read.read_image.Goals.{In_ok-read_numbers}
+use Rattle.decoding.proofs.read.read_image.Goals.{In_ok-read_lines}
 
-module _ (c : In_ok-read_numbers) where
-  told_here : read_told (Ok c.in_ok-read_numbers.field-0) ≡ read_answer c.args.text.now
-  told_here = sym (ap read_told c.in_ok-read_numbers.was) ∙ c.read_numbers.ensures.told
+told_here : (c : In_ok-read_lines) → read_told (Ok c.in_ok-read_lines.field-0) ≡ read_answer c.args.text.now
+told_here c = sym (ap read_told c.in_ok-read_lines.was) ∙ c.read_lines.ensures.told
 
 pub lay_derived-requires : goal.lay_derived-requires
 lay_derived-requires c =
-    let laid = c.read_numbers.ensures.laid _ c.in_ok-read_numbers.was in
-    record {
-      denotes_2 = denotes_own _ _ (job_laid c.args.text.now _ _ laid _ (told_here (goal.at.lay_derived-requires c).In_ok-read_numbers));
-      unlaid = unlaid c.args.text.now _ _ laid refl;
-    }
+    let told = told_here (goal.at.lay_derived-requires c).In_ok-read_lines in
+    subst IsJob (sym (c.read_lines.ensures.laid _ c.in_ok-read_lines.was)) (passed_job c.args.text.now (read_passed c.args.text.now _ told))
 
 pub returns : goal.returns
 returns c =
-    let laid = c.read_numbers.ensures.laid _ c.in_ok-read_numbers.was in
-    let told = told_here (goal.at.returns c).In_ok-read_numbers in
     record {
-      accepts = text_accepted _ _ told;
-      denotes = c.from_words.ensures ∙ c.lay_derived.ensures.denotes ∙ (job_laid c.args.text.now _ _ laid _ told).is;
+      accepts = text_accepted _ _ (told_here (goal.at.returns c).In_ok-read_lines);
+      denotes = c.new.ensures ∙ ap lines_job c.lay_derived.ensures.lines ∙ c.read_lines.ensures.laid _ c.in_ok-read_lines.was;
     }

@@ -1,37 +1,60 @@
--- `read_edges`: the edge lines passed so far are well-formed, their numbers laid, and what is kept is the pass's after so many lines.
-use Rattle.std.proofs.Common.{◌≡◌, ◌*◌, ◌+◌, Some, None, arith}
+-- `read_edges`: the edge lines passed so far are well-formed and laid, and what is kept is the pass's after so many lines.
+use Rattle.std.proofs.Common.{◌≡◌, ◌*◌, ◌+◌, Some, None, refl, sym, ◌∙◌, ap, get_or, arith}
 use Rattle.std.proofs.lemmas.Result.{err_from_is_err_and}
+use native.Mathlib.Numerals.{add-one}
+use lib.Dec.{lit<}
 use Rattle.text.specs.Fields.{line_numbers}
+use Rattle.text.proofs.FieldsLaws.{line_malformed, line_formed, line_first, line_number}
+use Rattle.job.specs.Layout.{state_at, edge_at, source_field, target_field}
+use Rattle.job.specs.Questions.{edge_ok}
 use Rattle.job.specs.declared.refusal.Refusal.TheVariants.{MalformedLine}
-use Rattle.line_reader.proofs.LineLaws.{edges_none, edges_few, edges_stop, edges_done, edge_more}
+use Rattle.edge_pass.specs.EdgePass.{start, after, kept_after}
+use Rattle.edge_pass.proofs.EdgePassLaws.{kept_lines, kept_right}
+use Rattle.line_reader.specs.LinesRead.{lines_of_edges}
+use Rattle.line_reader.proofs.LineLaws.{none_read, line_read, stopped, all_read, right_few}
 use Rattle.line_reader.proofs.edges.read_edges.Goals as goal
 
 pub loop-e-init : goal.loop-e-init
-loop-e-init c = edges_none _ _ c.requires _ c.told-m _ c.start-kept.ensures
+unfolding kept_after
+loop-e-init c =
+    none_read (lines_of_edges c.args.text.now c.args.h) _ c.args.edges.now (omega (arith, c.told-edges))
+    (c.start-kept.ensures ∙ ap start (sym c.requires.states_are))
 
 pub returns-in_err-source : goal.returns-in_err-source
+unfolding state_at edge_at
 returns-in_err-source c =
     let p = err_from_is_err_and c.from_residual.result c.from_residual.ensures.1 in
-    let h = c.args.h in
+    let t = c.args.text.now in
     let l = c.loop-e in
-    let read : line_numbers c.args.text.now (21 + 11 * (h.states + l.e)) 2 ≡ None = grind arith in
-    let why : p.0 ≡ MalformedLine (2 + (h.states + l.e)) = grind arith in
-    rw p.1 (edges_stop c.args.text.now h c.requires c.args.m.now l.m l.kept l.e p.0 (omega arith) read why l.invariant)
+    let read : line_numbers t (21 + 11 * (c.args.h.states + l.e)) 2 ≡ None = grind arith in
+    let here : line_numbers t (edge_at t l.e) 2 ≡ None = rw c.requires.states_are read in
+    let why : p.0 ≡ MalformedLine (2 + c.args.h.states + l.e) = grind arith in
+    rw p.1 (stopped (lines_of_edges t c.args.h) l.e l.kept l.edge-items l.invariant _ _ p.0 (omega arith) (line_malformed t _ 2 here) why)
 
 pub after-requires : goal.after-requires
 after-requires c =
-    let few = edges_few c.args.text.now c.args.h c.requires c.args.m.now _ _ _ c.loop-e.invariant in
+    let t = c.args.text.now in
+    let l = c.loop-e in
+    let lines = ap (λ k. k.order.lines) l.invariant.kept_is ∙ kept_lines t l.e in
+    let right = right_few (edge_ok t) l.e l.kept.order.right (ap (λ k. k.order.right) l.invariant.kept_is ∙ kept_right t l.e) in
     (omega arith, omega arith)
 
 pub loop-e-preserved : goal.loop-e-preserved
+unfolding state_at edge_at source_field target_field kept_after
 loop-e-preserved c =
-    let h = c.args.h in
+    let t = c.args.text.now in
     let l = c.loop-e in
-    let read : line_numbers c.args.text.now (21 + 11 * (h.states + l.e)) 2 ≡ Some c.in_ok-source.field-0 = grind arith in
-    edge_more c.args.text.now h c.requires c.args.m.now l.m _ _ c.in_ok-source.field-0 l.e l.kept _ (omega arith) read
-    c.set_word.ensures.modulo c.set_word-in-loop-e.ensures.modulo c.after.ensures l.invariant
+    let ns = c.in_ok-source.field-0 in
+    let at = edge_at t l.e in
+    let read : line_numbers t (21 + 11 * (c.args.h.states + l.e)) 2 ≡ Some ns = grind arith in
+    let here : line_numbers t at 2 ≡ Some ns = rw c.requires.states_are read in
+    let source : source_field t l.e ≡ get_or ns 0 0 = sym (line_first t at 2 ns here (lit< tt)) in
+    let target : target_field t l.e ≡ get_or ns 1 0 = sym (line_number t at 2 ns here 1 (lit< tt)) in
+    let kept : c.after.new.self ≡ kept_after t (l.e + 1) =
+    c.after.ensures ∙ (λ i. after (l.invariant.kept_is i) (sym source i) (sym target i)) ∙ ap (kept_after t) (sym (add-one l.e)) in
+    line_read (lines_of_edges t c.args.h) l.e l.kept l.edge-items l.invariant _ _ (omega arith) (line_formed t at 2 ns here) kept
+    (rw (source, target) refl)
 
 pub returns : goal.returns
 returns c =
-    let l = c.loop-e in
-    edges_done c.args.text.now c.args.h c.requires c.args.m.now l.m l.kept l.e (omega arith) l.invariant
+    let l = c.loop-e in all_read (lines_of_edges c.args.text.now c.args.h) l.e l.kept l.edge-items l.invariant _ (omega arith)

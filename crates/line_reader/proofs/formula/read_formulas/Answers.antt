@@ -1,37 +1,67 @@
--- `read_formulas`: the subformula lines passed so far are well-formed, and their numbers laid.
-use Rattle.std.proofs.Common.{◌≡◌, ◌*◌, ◌+◌, Some, None, arith}
+-- `read_formulas`: the subformula lines passed so far are well-formed and laid.
+use Rattle.std.proofs.Common.{◌≡◌, ◌*◌, ◌+◌, Option, Some, None, is_some, unwrap_or, refl, sym, ◌∙◌, ap, get_or, arith}
 use Rattle.std.proofs.lemmas.Result.{err_from_is_err_and}
+use lib.Dec.{lit<}
 use Rattle.text.specs.Fields.{line_numbers}
+use Rattle.text.proofs.FieldsLaws.{line_malformed, line_formed, line_first, line_number}
+use Rattle.job.specs.Layout.{state_at, subformula_at, kind_field, left_field, right_field}
+use Rattle.job.specs.Formula as spec
+use Rattle.job.specs.Questions.{formula_ok}
+use Rattle.job.specs.declared.subformula.Subformula.{Subformula}
+use Rattle.job.specs.declared.subformula.Subformula.TheVariants.{Atom}
 use Rattle.job.specs.declared.refusal.Refusal.TheVariants.{MalformedLine}
-use Rattle.line_reader.proofs.LineLaws.{lines_none, lines_few, formulas_none, formulas_stop, formulas_done, formula_more}
+use Rattle.line_reader.specs.LinesRead.{lines_of_subformulas}
+use Rattle.line_reader.proofs.LineLaws.{none_read, line_read, stopped, all_read, right_none, right_few, right_next}
 use Rattle.line_reader.proofs.formula.read_formulas.Goals as goal
 
 pub loop-k-init : goal.loop-k-init
-loop-k-init c = (lines_none _ _, formulas_none _ _ c.requires _ c.told-m)
+loop-k-init c = none_read (lines_of_subformulas c.args.text.now c.args.h) 0 c.args.formula.now (omega (arith, c.told-formula)) (right_none _)
 
 pub returns-in_err-kind : goal.returns-in_err-kind
+unfolding state_at subformula_at
 returns-in_err-kind c =
     let p = err_from_is_err_and c.from_residual.result c.from_residual.ensures.1 in
+    let t = c.args.text.now in
     let h = c.args.h in
     let l = c.loop-k in
-    let read : line_numbers c.args.text.now (21 + 11 * (h.states + h.edges) + 16 * l.k) 3 ≡ None = grind arith in
+    let read : line_numbers t (21 + 11 * (h.states + h.edges) + 16 * l.k) 3 ≡ None = grind arith in
+    let here : line_numbers t (subformula_at t l.k) 3 ≡ None = rw (c.requires.states_are, c.requires.edges_are) read in
     let why : p.0 ≡ MalformedLine (2 + (h.states + h.edges) + l.k) = grind arith in
-    rw p.1
-    (formulas_stop c.args.text.now h c.requires c.args.m.now l.m l.k l.right p.0 (omega arith) read why l.invariant.0 l.invariant.1)
+    rw p.1 (stopped (lines_of_subformulas t h) l.k l.right l.subformula-items l.invariant _ _ p.0 (omega arith) (line_malformed t _ 3 here) why)
 
 pub right_after-right-requires : goal.right_after-right-requires
-right_after-right-requires c = omega (arith, lines_few _ _ _ _ c.loop-k.invariant.0)
+right_after-right-requires c = omega (arith, right_few (formula_ok c.args.text.now) c.loop-k.k c.loop-k.right c.loop-k.invariant.kept_is)
+
+parsed_some : (o : Option Subformula) → is_some o ≡ spec.is_formula o
+unfolding spec.is_formula
+parsed_some (Some f) = refl
+parsed_some None = refl
+
+parsed_or : (o : Option Subformula) → unwrap_or o (Atom 0) ≡ spec.formula o
+unfolding spec.formula
+parsed_or (Some f) = refl
+parsed_or None = refl
 
 pub loop-k-preserved : goal.loop-k-preserved
+unfolding state_at subformula_at kind_field left_field right_field formula_ok
 loop-k-preserved c =
+    let t = c.args.text.now in
     let h = c.args.h in
     let l = c.loop-k in
-    let read : line_numbers c.args.text.now (21 + 11 * (h.states + h.edges) + 16 * l.k) 3 ≡ Some c.in_ok-kind.field-0 = grind arith in
-    formula_more c.args.text.now h c.requires c.args.m.now l.m _ _ _ c.in_ok-kind.field-0 l.k l.right _ _ (omega arith) read
-    c.set_word.ensures.modulo c.set_word-in-loop-k.ensures.modulo c.set_word-in-loop-k-2.ensures.modulo c.is_subformula.ensures
-    c.right_after-right.ensures l.invariant.0 l.invariant.1
+    let ns = c.in_ok-kind.field-0 in
+    let at = subformula_at t l.k in
+    let read : line_numbers t (21 + 11 * (h.states + h.edges) + 16 * l.k) 3 ≡ Some ns = grind arith in
+    let here : line_numbers t at 3 ≡ Some ns = rw (c.requires.states_are, c.requires.edges_are) read in
+    let kind : kind_field t l.k ≡ get_or ns 0 0 = sym (line_first t at 3 ns here (lit< tt)) in
+    let left : left_field t l.k ≡ get_or ns 1 0 = sym (line_number t at 3 ns here 1 (lit< tt)) in
+    let right : right_field t l.k ≡ get_or ns 2 0 = sym (line_number t at 3 ns here 2 (lit< tt)) in
+    let parsed : c.parse-parsed.result ≡ spec.parsed l.k (kind_field t l.k) (left_field t l.k) (right_field t l.k) =
+    c.parse-parsed.ensures ∙ rw (kind, left, right) refl in
+    let is_right = c.is_some.ensures ∙ ap is_some parsed ∙ parsed_some _ in
+    line_read (lines_of_subformulas t h) l.k l.right l.subformula-items l.invariant _ _ (omega arith) (line_formed t at 3 ns here)
+    (right_next (formula_ok t) l.k _ _ _ l.invariant.kept_is is_right c.right_after-right.ensures)
+    (c.unwrap_or.ensures ∙ ap (λ (o : Option Subformula). unwrap_or o (Atom 0)) parsed ∙ parsed_or _)
 
 pub returns : goal.returns
 returns c =
-    let l = c.loop-k in
-    formulas_done c.args.text.now c.args.h c.requires c.args.m.now l.m l.k l.right (omega arith) l.invariant.0 l.invariant.1
+    let l = c.loop-k in all_read (lines_of_subformulas c.args.text.now c.args.h) l.k l.right l.subformula-items l.invariant _ (omega arith)

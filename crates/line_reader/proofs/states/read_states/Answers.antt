@@ -1,34 +1,46 @@
--- `read_states`: the state lines passed so far are well-formed, and their numbers laid.
-use Rattle.std.proofs.Common.{◌≡◌, ◌*◌, ◌+◌, Some, None, arith}
+-- `read_states`: the state lines passed so far are well-formed and laid.
+use Rattle.std.proofs.Common.{◌≡◌, ◌*◌, ◌+◌, Some, None, refl, sym, ◌∙◌, get_or, arith}
 use Rattle.std.proofs.lemmas.Result.{err_from_is_err_and}
+use lib.Dec.{lit<}
 use Rattle.text.specs.Fields.{line_numbers}
+use Rattle.text.proofs.FieldsLaws.{line_malformed, line_formed, line_first, line_number}
+use Rattle.job.specs.Layout.{state_at, owner_field, label_field}
+use Rattle.job.specs.Questions.{state_ok}
 use Rattle.job.specs.declared.refusal.Refusal.TheVariants.{MalformedLine}
-use Rattle.line_reader.proofs.LineLaws.{lines_none, lines_few, states_none, states_stop, states_done, state_more}
+use Rattle.line_reader.specs.LinesRead.{lines_of_states}
+use Rattle.line_reader.proofs.LineLaws.{none_read, line_read, stopped, all_read, right_none, right_few, right_next}
 use Rattle.line_reader.proofs.states.read_states.Goals as goal
 
 pub loop-s-init : goal.loop-s-init
-loop-s-init c = (lines_none _ _, states_none _ _ c.requires _ c.told-m)
+loop-s-init c = none_read (lines_of_states c.args.text.now c.args.h) 0 c.args.states.now (omega (arith, c.told-states)) (right_none _)
 
 pub returns-in_err-owner : goal.returns-in_err-owner
+unfolding state_at
 returns-in_err-owner c =
     let p = err_from_is_err_and c.from_residual.result c.from_residual.ensures.1 in
+    let t = c.args.text.now in
     let l = c.loop-s in
-    let read : line_numbers c.args.text.now (21 + 11 * l.s) 2 ≡ None = grind arith in
+    let read : line_numbers t (21 + 11 * l.s) 2 ≡ None = grind arith in
     let why : p.0 ≡ MalformedLine (2 + l.s) = grind arith in
-    rw p.1
-    (states_stop c.args.text.now c.args.h c.requires c.args.m.now l.m l.s l.right p.0 (omega arith) read why l.invariant.0 l.invariant.1)
+    rw p.1 (stopped (lines_of_states t c.args.h) l.s l.right l.state-items l.invariant _ _ p.0 (omega arith) (line_malformed t _ 2 read) why)
 
 pub right_after-right-requires : goal.right_after-right-requires
-right_after-right-requires c = omega (arith, lines_few _ _ _ _ c.loop-s.invariant.0)
+right_after-right-requires c = omega (arith, right_few (state_ok c.args.text.now) c.loop-s.s c.loop-s.right c.loop-s.invariant.kept_is)
 
 pub loop-s-preserved : goal.loop-s-preserved
+unfolding state_at owner_field label_field state_ok
 loop-s-preserved c =
+    let t = c.args.text.now in
     let l = c.loop-s in
-    let read : line_numbers c.args.text.now (21 + 11 * l.s) 2 ≡ Some c.in_ok-owner.field-0 = grind arith in
-    state_more c.args.text.now c.args.h c.requires c.args.m.now l.m _ _ c.in_ok-owner.field-0 l.s l.right _ _ (omega arith) read
-    c.set_word.ensures.modulo c.set_word-in-loop-s.ensures.modulo c.is_state.ensures c.right_after-right.ensures l.invariant.0 l.invariant.1
+    let ns = c.in_ok-owner.field-0 in
+    let at = 21 + 11 * l.s in
+    let read : line_numbers t at 2 ≡ Some ns = grind arith in
+    let owner : owner_field t l.s ≡ get_or ns 0 0 = sym (line_first t at 2 ns read (lit< tt)) in
+    let label : label_field t l.s ≡ get_or ns 1 0 = sym (line_number t at 2 ns read 1 (lit< tt)) in
+    let is_right : c.is_state.result ≡ state_ok t l.s = c.is_state.ensures ∙ rw (owner, label, c.requires.nodes_are) refl in
+    line_read (lines_of_states t c.args.h) l.s l.right l.state-items l.invariant _ _ (omega arith) (line_formed t at 2 ns read)
+    (right_next (state_ok t) l.s _ _ _ l.invariant.kept_is is_right c.right_after-right.ensures) (rw (owner, label) refl)
 
 pub returns : goal.returns
 returns c =
-    let l = c.loop-s in
-    states_done c.args.text.now c.args.h c.requires c.args.m.now l.m l.s l.right (omega arith) l.invariant.0 l.invariant.1
+    let l = c.loop-s in all_read (lines_of_states c.args.text.now c.args.h) l.s l.right l.state-items l.invariant _ (omega arith)

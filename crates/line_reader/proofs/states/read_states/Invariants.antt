@@ -1,8 +1,7 @@
--- `read_states`: the state lines passed so far are well-formed, and their numbers laid.
-use Rattle.job.specs.Questions.{state_ok}
-use Rattle.line_reader.specs.LinesRead.{state_formed, StatesLaid}
+-- `read_states`: the state lines passed so far are well-formed and laid.
+use Rattle.line_reader.specs.LinesRead.{lines_of_states}
 use Rattle.line_reader.proofs.LineLaws.{SoFar}
 use Rattle.line_reader.proofs.states.read_states.Given as goal
 
 abbrev pub invariant-loop-s : goal.invariant-loop-s
-invariant-loop-s l = SoFar (state_formed l.text) (state_ok l.text) l.s l.right × StatesLaid l.text l.s l.initial.m l.m
+invariant-loop-s l = SoFar (lines_of_states l.text l.h) l.s l.right l.state-items

@@ -1,5 +1,5 @@
 -- `copy_column`: each state takes its owner's cell, and where one was filled the column is marked.
-use Rattle.std.proofs.Common.{◌<◌, refl, arith, rules}
+use Rattle.std.proofs.Common.{arith, rules}
 use Rattle.image.specs.Denoted.{job_of}
 use Rattle.image.proofs.ImageLaws.{image_job}
 use Rattle.table.specs.Filling.{Leaves, part, of_column}
@@ -20,22 +20,16 @@ module _ (c : After-fill_column-filled) where
       let kept = copied_kept J (image_job c.args.m.now) c.args.table.now _ u.now d l c.args.n s c.args.k h.state_in h.subformula_in in
       search (rules, kept))
 
-pub returns-then-filled-eq0 : goal.returns-then-filled-eq0
-returns-then-filled-eq0 c =
-    let all = filled_all (goal.at.returns-then-filled-eq0 c).After-fill_column-filled in
-    record { part_copied = copied_idle _ _ _ _ _ _ c.fill_column-filled.result all c.if-filled-eq0.true; news = refl; upper_bound = omega arith }
+pub returns-then-filled-eq0-clause-part_copied : goal.returns-then-filled-eq0-clause-part_copied
+returns-then-filled-eq0-clause-part_copied c =
+    copied_idle _ _ _ _ _ _ c.fill_column-filled.result (filled_all (goal.at.returns-then-filled-eq0-clause-part_copied c).After-fill_column-filled) c.if-filled-eq0.true
 
 -- the column's mark
 pub mark_stale-requires : goal.mark_stale-requires
 mark_stale-requires c =
     let job = image_job c.args.m.now in
-    (omega (arith, job.nodes, c.requires.n_bound.0), omega (arith, job.subformulas, c.requires.n_bound.1))
+    (omega (arith, job.nodes, c.requires.column.node_in), omega (arith, job.subformulas, c.requires.column.subformula_in))
 
-pub returns : goal.returns
-returns c =
-    let all = filled_all (goal.at.returns c).After-fill_column-filled in
-    record {
-      part_copied = copied_marked _ _ _ _ _ _ c.fill_column-filled.result all c.mark_stale.ensures.stale;
-      news = c.mark_stale.ensures.news;
-      upper_bound = c.fill_column-filled.ensures.upper_bound;
-    }
+pub returns-clause-part_copied : goal.returns-clause-part_copied
+returns-clause-part_copied c =
+    copied_marked _ _ _ _ _ _ c.fill_column-filled.result (filled_all (goal.at.returns-clause-part_copied c).After-fill_column-filled) c.mark_stale.ensures.stale

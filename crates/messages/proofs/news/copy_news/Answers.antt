@@ -4,7 +4,7 @@ use mathlib.Core.Path.{◌≡◌}
 use Rattle.job.specs.Job.{subformula_count}
 use Rattle.image.specs.Denoted.{job_of}
 use Rattle.image.proofs.ImageLaws.{image_job}
-use Rattle.messages.proofs.NewsLaws.{copied_lent, copied_few, all_none, next_copied, all_more, all_over}
+use Rattle.messages.proofs.NewsLaws.{copied_few, all_none, next_copied, all_more, all_over}
 use borrow.Author.Rules.{rules}
 use native.Mathlib.Omega.{arith}
 use Rattle.messages.proofs.news.copy_news.Goals as goal
@@ -13,17 +13,13 @@ pub loop-k-init : goal.loop-k-init
 loop-k-init c =
     (omega arith, c.subformulas-k-end.ensures.0, all_none _ (image_job c.args.m.now) _ c.requires.lent.long _)
 
-pub copy_subformula-filled-requires : goal.copy_subformula-filled-requires
-copy_subformula-filled-requires c =
+pub copy_subformula-filled-requires-clause-copied : goal.copy_subformula-filled-requires-clause-copied
+copy_subformula-filled-requires-clause-copied c =
     let l = c.loop-k in
     let J = job_of c.args.m.now in
-    let below : l.k < subformula_count J = omega (arith, l.invariant.1) in record {
-      lent = copied_lent c.args.m.now c.args.table.now c.requires.lent _ c.args.pending.now.stale l.table l.pending.stale l.filled
-          l.invariant.2.part_copied;
-      k_bound = below;
-      copied = next_copied J (image_job c.args.m.now) c.args.table.now c.requires.lent.long c.args.pending.now l.k
-          l.table l.pending l.filled l.invariant.2 below c.requires.exchanged;
-    }
+    let below : l.k < subformula_count J = omega (arith, l.invariant.1) in
+    next_copied J (image_job c.args.m.now) c.args.table.now c.requires.lent.long c.args.pending.now l.k
+    l.table l.pending l.filled l.invariant.2 below c.requires.exchanged
 
 pub overflow_add-filled : goal.overflow_add-filled
 overflow_add-filled c =

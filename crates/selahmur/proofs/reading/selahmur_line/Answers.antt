@@ -1,5 +1,5 @@
 -- `selahmur_line`: where the line starts and how long it is.
-use Rattle.std.proofs.Common.{ℕ, [], ◌∷◌, ◌∙◌, ap, ap₂, unwrap_or}
+use Rattle.std.proofs.Common.{[], ◌∷◌, ◌∙◌, ap, ap₂, unwrap_or}
 use Rattle.layout.proofs.LinesLaws.{part_or_empty}
 use Rattle.layout.specs.declared.lines.Part.{Part}
 use Rattle.numbers.specs.Stored.{stored, stored_from}

@@ -1,31 +1,30 @@
--- `has_empty`: the states passed so far have filled cells.
-use Prim.Native.Nat.{◌<◌}
-use mathlib.Core.Path.{◌≡◌}
-use borrow.Author.Count.{below_more}
-use Rattle.image.specs.Image.{fragment_size}
+-- `has_empty`: over the states of the fragment.
+use Rattle.std.proofs.Common.{ℕ, ◌∙◌, ap, Bool, List, rules, tests}
+use Rattle.std.specs.List.{list_any}
+use Rattle.std.proofs.lemmas.Grind.{get_or_default_zero}
+use Rattle.std.proofs.lemmas.Iterator.{YieldsList-from_slice}
+use Rattle.std.proofs.lemmas.Iterator.Adapters.{serves_from_places}
+use Rattle.std.proofs.lemmas.Iterator.Search.{any_from_yields_List}
+use Rattle.cells.specs.Table.{cell, is_empty}
 use Rattle.image.specs.Denoted.{job_of}
-use Rattle.sets.proofs.SetLaws.{empty_found, empty_passed, empty_none}
-use native.Mathlib.Omega.{arith}
+use Rattle.image.proofs.ImageLaws.{image_job}
+use Rattle.image.proofs.FragmentSlice.{member_read}
 use Rattle.sets.proofs.sets.has_empty.Goals as goal
 
-pub returns-then-cell-eq2 : goal.returns-then-cell-eq2
-returns-then-cell-eq2 c =
-    let l = c.loop-i in
-    let below : l.i < fragment_size (job_of c.args.m.now) c.args.n = omega arith in
-    empty_found _ _ _ _ l.i _ _ c.fragment_state-s.ensures.0 c.cell.ensures below
-    c.if-cell-eq2.true
-
-pub loop-i-preserved : goal.loop-i-preserved
-loop-i-preserved c =
-    let l = c.loop-i in (
-      omega arith,
-      below_more _ l.i l.invariant.1
-          (empty_passed _ _ _ _ l.i _ _ c.fragment_state-s.ensures.0 c.cell.ensures
-          c.if-cell-eq2.false),
-    )
+pub any-requires-clause-callable : goal.any-requires-clause-callable
+any-requires-clause-callable c =
+    let list = c.fragment.result.now in
+    serves_from_places (YieldsList-from_slice list c.iter.ensures.rest) (λ x q k. search rules)
+    (λ x i l at.
+    let here =
+    member_read (job_of c.args.m.now) (image_job c.args.m.now) c.args.n list c.fragment.ensures i x.now l (at ∙ get_or_default_zero list i x.now l) in
+    let in_state = here.state_in in
+    search rules)
 
 pub returns : goal.returns
+unfolding is_empty
 returns c =
-    let l = c.loop-i in
-    let e : l.i ≡ fragment_size (job_of c.args.m.now) c.args.n = omega arith in
-    empty_none _ _ _ _ l.i e l.invariant.1
+    let empty : ℕ → Bool = λ s. is_empty (cell (job_of c.args.m.now) c.args.table.now c.args.n s c.args.k) in
+    any_from_yields_List empty _ _ _ c.any.ensures.ran (YieldsList-from_slice c.fragment.result.now c.iter.ensures.rest)
+    (λ x b q k. search (rules, tests))
+    ∙ ap (λ (l : List ℕ). list_any empty l) c.fragment.ensures

@@ -12,20 +12,20 @@ pub returns-then-own-ne2 : goal.returns-then-own-ne2
 returns-then-own-ne2 c =
     mark_by_cells _ _ _ _ _ c.cell-own.ensures refl refl refl (mark_other _ _ _ _ _ _ c.if-own-by.false c.if-own-ne2.true)
 
-pub returns-then-b-by : goal.returns-then-b-by
-returns-then-b-by c =
+pub returns-then-counts : goal.returns-then-counts
+returns-then-counts c =
     mark_by_cells _ _ _ _ _ c.cell-own.ensures (place_inner _ _ _ _ c.place.ensures) c.cell-b.ensures refl
-    (mark_start _ _ _ _ _ _ c.if-own-by.false c.if-own-ne2.false (not-false _ (sym c.ne.ensures ∙ c.if-ne.false)) c.if-b-by.true)
+    (mark_start _ _ _ _ _ _ c.if-own-by.false c.if-own-ne2.false (not-false _ (sym c.ne.ensures ∙ c.if-ne.false)) (sym c.counts.ensures ∙ c.if-counts.true))
 
-pub returns-then-a-by : goal.returns-then-a-by
-returns-then-a-by c =
+pub returns-then-counts-2 : goal.returns-then-counts-2
+returns-then-counts-2 c =
     mark_by_cells _ _ _ _ _ c.cell-own.ensures (place_inner _ _ _ _ c.place.ensures) c.cell-b.ensures c.cell-a.ensures
-    (mark_grow _ _ _ _ _ _ c.if-own-by.false c.if-own-ne2.false (not-false _ (sym c.ne.ensures ∙ c.if-ne.false)) c.if-b-by.false c.if-a-by.true)
+    (mark_grow _ _ _ _ _ _ c.if-own-by.false c.if-own-ne2.false (not-false _ (sym c.ne.ensures ∙ c.if-ne.false)) (sym c.counts.ensures ∙ c.if-counts.false) (sym c.counts-2.ensures ∙ c.if-counts-2.true))
 
 pub returns : goal.returns
 returns c =
     mark_by_cells _ _ _ _ _ c.cell-own.ensures (place_inner _ _ _ _ c.place.ensures) c.cell-b.ensures c.cell-a.ensures
-    (mark_no_join _ _ _ _ _ _ c.if-own-by.false c.if-own-ne2.false (not-false _ (sym c.ne.ensures ∙ c.if-ne.false)) c.if-b-by.false c.if-a-by.false)
+    (mark_no_join _ _ _ _ _ _ c.if-own-by.false c.if-own-ne2.false (not-false _ (sym c.ne.ensures ∙ c.if-ne.false)) (sym c.counts.ensures ∙ c.if-counts.false) (sym c.counts-2.ensures ∙ c.if-counts-2.false))
 
 pub returns-then-ne : goal.returns-then-ne
 returns-then-ne c =

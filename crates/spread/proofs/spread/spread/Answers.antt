@@ -1,33 +1,44 @@
--- `spread`: the states of the queue before its head are told.
-use Prim.Native.Nat.{◌≤◌}
-use borrow.Author.Rules.{Fits-under}
-use mir.Syntax.{w64}
-use native.Mathlib.Omega.{arith}
-use Rattle.spread.proofs.Worklist.{list_start, list_room, list_over}
-use Rattle.spread.proofs.spread.spread.Goals as goal
+-- `spread`: some states of the set are told, the others wait.
+use Rattle.std.proofs.Common.{ℕ, ◌≡◌, ◌∙◌, refl, ap, sym, ◌<◌, ◌↔◌, length, List, [], ◌∷◌, ◌++◌, Option, Some, None, IsSome, arith}
+use mathlib.Core.Bool.{true≢false}
+use Rattle.image.specs.Denoted.{job_of}
 use Rattle.image.proofs.ImageLaws.{image_job}
-use Rattle.spread.proofs.spread.spread.Goals.{At-loop-head}
+use Rattle.spread.specs.Spread.{numbers}
+use Rattle.spread.specs.Underway.{Taken}
+use Rattle.spread.proofs.Worklist.{list_taken, list_less, list_over}
+use Rattle.spread.proofs.spread.spread.Goals as goal
+use Rattle.spread.proofs.spread.spread.Goals.{After-from}
 
-pub loop-head-init : goal.loop-head-init
-loop-head-init c =
-    list_start (image_job c.args.m.now) c.requires.joinable.long c.start-tail.ensures
+pub loop-t-init : goal.loop-t-init
+loop-t-init c = (_, c.start-list.ensures c.args.all)
 
-module _ (c : At-loop-head) where
-  room : c.loop-head.tail ≤ 256
-  room = list_room (image_job c.args.m.now) c.loop-head.invariant
+-- the state that is popped
+module _ (c : After-from) where
+  popped : c.loop-t.list.waiting.items ≡ c.pop.new.self.items ++ c.from.result ∷ []
+  popped = c.in-Some.ensures.items ∙ ap (λ t. c.pop.new.self.items ++ t ∷ []) (sym c.from.ensures)
 
-pub overflow_add-head : goal.overflow_add-head
-overflow_add-head c =
-    let r = room (goal.at.overflow_add-head c).At-loop-head in
-    let l = c.loop-head-test.true in
-    Fits-under w64 _ 257 (omega arith) tt
+  taken :
+      Taken (job_of c.args.m.now) c.args.n c.args.all (numbers c.args.marks.now) c.loop-t.invariant.0 c.from.result
+      (record { marks = c.loop-t.list.marks; counts = c.loop-t.list.counts; waiting = c.pop.new.self })
+  taken = list_taken c.loop-t.list c.loop-t.invariant.1 c.pop.new.self.items c.from.result popped _ refl refl refl
 
-pub loop-head-smaller : goal.loop-head-smaller
-loop-head-smaller c = let r = room (goal.at.loop-head-smaller c).At-loop-head in omega arith
+pub tell-requires-clause-taken : goal.tell-requires-clause-taken
+tell-requires-clause-taken c = (_, _, taken (goal.at.tell-requires-clause-taken c).After-from)
 
-pub loop-head-preserved : goal.loop-head-preserved
-loop-head-preserved c = c.tell-tail.ensures _ c.loop-head.invariant
+pub loop-t-smaller : goal.loop-t-smaller
+loop-t-smaller c =
+    let at = (goal.at.loop-t-smaller c).After-from in
+    list_less c.loop-t.list c.tell.new.self c.loop-t.invariant.1 c.pop.new.self.items c.from.result (popped at) (c.tell.ensures _ _ (taken at))
+
+pub loop-t-preserved : goal.loop-t-preserved
+loop-t-preserved c = (_, c.tell.ensures _ _ (taken (goal.at.loop-t-preserved c).After-from))
+
+none_waits : (r : Option ℕ) (xs : List ℕ) → (IsSome r ↔ (0 < length xs)) → ((t : ℕ) → r ≡ Some t → ⊥) → xs ≡ []
+none_waits (Some t) xs some none = absurd (none t refl)
+none_waits None [] some none = refl
+none_waits None (x ∷ xs) some none = absurd (true≢false (sym (some.1 (omega arith))))
 
 pub returns : goal.returns
 returns c =
-    list_over (image_job c.args.m.now) c.loop-head.invariant c.requires.joinable c.loop-head-test.false
+    list_over (image_job c.args.m.now) c.loop-t.invariant.1 c.requires.joinable
+    (none_waits c.pop.result c.loop-t.list.waiting.items c.pop.ensures.variant c.in_default.not-Some)

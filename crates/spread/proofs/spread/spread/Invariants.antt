@@ -1,13 +1,14 @@
--- `spread`: the states of the queue before its head are told.
-use Prim.Native.Nat.{◌-◌}
+-- `spread`: some states of the set are told, the others wait.
+use Prim.Native.Nat.{ℕ}
+use mathlib.Core.Bool.{Bool}
 use Rattle.image.specs.Denoted.{job_of}
-use Rattle.spread.specs.Underway.{Spreading}
 use Rattle.spread.specs.Spread.{numbers}
+use Rattle.spread.specs.Underway.{Spreading}
+use Rattle.spread.proofs.Worklist.{left}
 use Rattle.spread.proofs.spread.spread.Given as goal
 
-abbrev pub invariant-loop-head : goal.invariant-loop-head
-invariant-loop-head l =
-    Spreading (job_of l.m) l.n l.all (numbers l.initial.marks) (numbers l.marks) l.counts l.queue l.tail l.head
+abbrev pub invariant-loop-t : goal.invariant-loop-t
+invariant-loop-t l = (told : ℕ → Bool) × Spreading (job_of l.m) l.n l.all (numbers l.initial.marks) told l.list
 
-abbrev pub decreases-loop-head : goal.decreases-loop-head
-decreases-loop-head l = 256 - l.head
+abbrev pub decreases-loop-t : goal.decreases-loop-t
+decreases-loop-t l = left (job_of l.m) l.n l.list

@@ -1,5 +1,5 @@
 -- `bears`: by the mark of its own, then by rule.
-use mathlib.Core.Path.{◌≡◌, sym, ◌∙◌, ap}
+use mathlib.Core.Path.{◌≡◌, refl, sym, ◌∙◌, ap}
 use mathlib.Core.Bool.{false}
 use mathlib.Core.List.{[], ◌∷◌}
 use native.Mathlib.Omega.{arith}
@@ -26,9 +26,9 @@ pub is_stale-requires-in-And : goal.is_stale-requires-in-And
 unfolding InRange
 is_stale-requires-in-And c = let (a, b) = rw c.in-And.is at c.requires.2 in (search rules, omega arith)
 
-pub is_stale-requires-in-And-2 : goal.is_stale-requires-in-And-2
+pub is_stale-requires-else-is_stale-2 : goal.is_stale-requires-else-is_stale-2
 unfolding InRange
-is_stale-requires-in-And-2 c =
+is_stale-requires-else-is_stale-2 c =
     let (a, b) = rw c.in-And.is at c.requires.2 in (search rules, omega arith)
 
 pub is_stale-requires-in-Next : goal.is_stale-requires-in-Next
@@ -41,9 +41,9 @@ asks_stale-requires c =
     let pre = c.requires in
     (pre.0, asks_up _ 32 c.in-Sets.g.start pre.1 (rw c.in-Sets.is at pre.2).0)
 
-pub asks_stale-requires-in-Sets : goal.asks_stale-requires-in-Sets
+pub asks_stale-requires-else-asks_stale : goal.asks_stale-requires-else-asks_stale
 unfolding InRange
-asks_stale-requires-in-Sets c =
+asks_stale-requires-else-asks_stale c =
     let pre = c.requires in
     (pre.0, asks_up _ 32 c.in-Sets.g.grow pre.1 (rw c.in-Sets.is at pre.2).1)
 
@@ -55,18 +55,31 @@ returns-in-Not c =
     bears_one _ _ _ _ _ c.is_stale-in-Not.result (own_rested (goal.at.returns-in-Not c).Else-is_stale) (ap operands c.in-Not.is)
     c.is_stale-in-Not.ensures
 
-pub returns-in-And : goal.returns-in-And
-returns-in-And c =
-    bears_both _ _ _ _ (_ ∷ []) (_ ∷ []) (own_rested (goal.at.returns-in-And c).Else-is_stale)
-    (ap operands c.in-And.is) (asks_one _ _ _ c.is_stale-in-And.ensures)
-    (asks_one _ _ _ c.is_stale-in-And-2.ensures)
-
 pub returns-in-Next : goal.returns-in-Next
 returns-in-Next c =
     bears_one _ _ _ _ _ c.is_stale-in-Next.result (own_rested (goal.at.returns-in-Next c).Else-is_stale) (ap operands c.in-Next.is)
     c.is_stale-in-Next.ensures
 
-pub returns-in-Sets : goal.returns-in-Sets
-returns-in-Sets c =
-    bears_both _ _ _ _ _ _ (own_rested (goal.at.returns-in-Sets c).Else-is_stale)
-    (ap operands c.in-Sets.is) c.asks_stale.ensures c.asks_stale-in-Sets.ensures
+-- of two, the first or else the second
+pub returns-then-is_stale-2 : goal.returns-then-is_stale-2
+returns-then-is_stale-2 c =
+    c.if-is_stale-2.true
+    ∙ bears_both _ _ _ _ (_ ∷ []) (_ ∷ []) (own_rested (goal.at.returns-then-is_stale-2 c).Else-is_stale)
+    (ap operands c.in-And.is) (asks_one _ _ _ (sym c.if-is_stale-2.true ∙ c.is_stale-in-And.ensures)) refl
+
+pub returns-else-is_stale-2 : goal.returns-else-is_stale-2
+returns-else-is_stale-2 c =
+    bears_both _ _ _ _ (_ ∷ []) (_ ∷ []) (own_rested (goal.at.returns-else-is_stale-2 c).Else-is_stale)
+    (ap operands c.in-And.is) (asks_one _ _ _ (sym c.if-is_stale-2.false ∙ c.is_stale-in-And.ensures))
+    (asks_one _ _ _ c.is_stale-else-is_stale-2.ensures)
+
+pub returns-then-asks_stale : goal.returns-then-asks_stale
+returns-then-asks_stale c =
+    c.if-asks_stale.true
+    ∙ bears_both _ _ _ _ _ _ (own_rested (goal.at.returns-then-asks_stale c).Else-is_stale)
+    (ap operands c.in-Sets.is) (sym c.if-asks_stale.true ∙ c.asks_stale.ensures) refl
+
+pub returns-else-asks_stale : goal.returns-else-asks_stale
+returns-else-asks_stale c =
+    bears_both _ _ _ _ _ _ (own_rested (goal.at.returns-else-asks_stale c).Else-is_stale)
+    (ap operands c.in-Sets.is) (sym c.if-asks_stale.false ∙ c.asks_stale.ensures) c.asks_stale-else-asks_stale.ensures

@@ -27,9 +27,9 @@ module _ (c : In-loop-k) where
   k_in : c.loop-k.k < subformula_count (job_of c.args.m.now)
   k_in = let is = c.subformulas-k-end.ensures.0 in omega arith
 
-pub work_column-count-requires : goal.work_column-count-requires
-work_column-count-requires c =
-    record { resting = column_next (resting (goal.at.work_column-count-requires c).Start) c.loop-k.invariant.1; k_bound = k_in (goal.at.work_column-count-requires c).In-loop-k }
+pub work_column-count-requires-clause-resting : goal.work_column-count-requires-clause-resting
+work_column-count-requires-clause-resting c =
+    column_next (resting (goal.at.work_column-count-requires-clause-resting c).Start) c.loop-k.invariant.1
 
 pub overflow_add-count : goal.overflow_add-count
 overflow_add-count c =

@@ -9,35 +9,35 @@ use Rattle.values.proofs.value.value.Goals as goal
 
 pub overflow_cast-bit : goal.overflow_cast-bit
 unfolding InRange
-overflow_cast-bit c = let small = subst (InRange _) c.in-Atom.is c.requires.n_bound.2 in omega arith
+overflow_cast-bit c = let small = subst (InRange _) c.in-Atom.is c.requires.rule in omega arith
 
 pub overflow_shr-bit : goal.overflow_shr-bit
 unfolding InRange
-overflow_shr-bit c = let small = subst (InRange _) c.in-Atom.is c.requires.n_bound.2 in omega arith
+overflow_shr-bit c = let small = subst (InRange _) c.in-Atom.is c.requires.rule in omega arith
 
 pub cell-a-requires : goal.cell-a-requires
 unfolding InRange
 cell-a-requires c =
     let p = c.requires in
-    record { lent = p.lent; cell = record { node_in = p.n_bound.0; state_in = p.n_bound.1; subformula_in = subst (InRange _) c.in-Not.is p.n_bound.2 } }
+    record { lent = p.lent; cell = record { node_in = p.row.node_in; state_in = p.row.state_in; subformula_in = subst (InRange _) c.in-Not.is p.rule } }
 
 pub cell-a-requires-in-And : goal.cell-a-requires-in-And
 unfolding InRange
 cell-a-requires-in-And c =
     let p = c.requires in
-    record { lent = p.lent; cell = record { node_in = p.n_bound.0; state_in = p.n_bound.1; subformula_in = (subst (InRange _) c.in-And.is p.n_bound.2).0 } }
+    record { lent = p.lent; cell = record { node_in = p.row.node_in; state_in = p.row.state_in; subformula_in = (subst (InRange _) c.in-And.is p.rule).0 } }
 
 pub cell-b-requires : goal.cell-b-requires
 unfolding InRange
 cell-b-requires c =
     let p = c.requires in
-    record { lent = p.lent; cell = record { node_in = p.n_bound.0; state_in = p.n_bound.1; subformula_in = (subst (InRange _) c.in-And.is p.n_bound.2).1 } }
+    record { lent = p.lent; cell = record { node_in = p.row.node_in; state_in = p.row.state_in; subformula_in = (subst (InRange _) c.in-And.is p.rule).1 } }
 
 pub next-requires : goal.next-requires
 unfolding InRange
 next-requires c =
     let p = c.requires in
-    record { lent = p.lent; cell = record { node_in = p.n_bound.0; state_in = p.n_bound.1; subformula_in = subst (InRange _) c.in-Next.is p.n_bound.2 } }
+    record { lent = p.lent; cell = record { node_in = p.row.node_in; state_in = p.row.state_in; subformula_in = subst (InRange _) c.in-Next.is p.rule } }
 
 pub returns-in-Atom : goal.returns-in-Atom
 unfolding value_at

@@ -1,7 +1,7 @@
--- `label`: a word of the region of labels.
+-- `label`: what the state's line says.
 use mathlib.Core.Path.{sym}
-use Rattle.image.proofs.ImageLaws.{label_word}
+use Rattle.image.proofs.LinesLaws.{label_line}
 use Rattle.image.proofs.image.Image.label.Goals as goal
 
 pub returns : goal.returns
-returns c = sym (label_word c.args.self.now.words c.args.s c.requires)
+returns c = sym (label_line c.args.self.now.space.now.lines c.args.s c.requires)

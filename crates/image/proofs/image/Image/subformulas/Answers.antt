@@ -1,7 +1,8 @@
 -- `subformulas`: the third number of line 1.
-use Rattle.image.proofs.ImageLaws.{image_denotes, subformulas_read}
+use mathlib.Core.Path.{refl}
+use Rattle.image.proofs.ImageLaws.{image_job}
+use Rattle.image.proofs.LinesLaws.{subformulas_read}
 use Rattle.image.proofs.image.Image.subformulas.Goals as goal
 
 pub returns : goal.returns
-returns c =
-    subformulas_read _ c.args.self.now.words (image_denotes c.args.self.now) c.word.result c.word.ensures.0
+returns c = subformulas_read _ (image_job c.args.self.now) _ refl

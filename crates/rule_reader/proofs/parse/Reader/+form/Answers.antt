@@ -1,6 +1,8 @@
 -- Each function of the cycle reads what the parse of the tokens of the text has.
 use borrow.Author.Rules.{rules}
 use mathlib.Core.Logic.{⊎_elim}
+use Rattle.rule_text.specs.Parse.{read_marked}
+use Rattle.rule_text.specs.declared.token.Mark.TheVariants.{ForAllPaths, OnSomePath, LeftParenthesis}
 use Rattle.rule_reader.proofs.ReadsLaws.{part_read}
 use Rattle.rule_reader.proofs.FormLaws as form
 use Rattle.rule_reader.proofs.FormLaws.{opens, opens_form}
@@ -62,13 +64,16 @@ expression-returns t c = operator.reads_joined _ _ _ _ _ _ c.in_ok-left.ensures 
 
 -- `marked_form`: by the mark.
 pub marked_form-returns-in-LeftParenthesis : goal.marked_form-returns-in-LeftParenthesis
-marked_form-returns-in-LeftParenthesis t c = form.reads_parenthesis _ _ _ _ _ _ c.in-LeftParenthesis.is c.parenthesized.ensures
+unfolding read_marked
+marked_form-returns-in-LeftParenthesis t c = form.reads_marked _ _ _ _ _ _ LeftParenthesis c.in-LeftParenthesis.is c.parenthesized.ensures
 
 pub marked_form-returns-in-ForAllPaths : goal.marked_form-returns-in-ForAllPaths
-marked_form-returns-in-ForAllPaths t c = form.reads_all _ _ _ _ _ _ c.in-ForAllPaths.is c.until_form.ensures
+unfolding read_marked
+marked_form-returns-in-ForAllPaths t c = form.reads_marked _ _ _ _ _ _ ForAllPaths c.in-ForAllPaths.is c.until_form.ensures
 
 pub marked_form-returns-in-OnSomePath : goal.marked_form-returns-in-OnSomePath
-marked_form-returns-in-OnSomePath t c = form.reads_some _ _ _ _ _ _ c.in-OnSomePath.is c.until_form-in-OnSomePath.ensures
+unfolding read_marked
+marked_form-returns-in-OnSomePath t c = form.reads_marked _ _ _ _ _ _ OnSomePath c.in-OnSomePath.is c.until_form-in-OnSomePath.ensures
 
 pub marked_form-returns-in-Until : goal.marked_form-returns-in-Until
 unfolding opens_form

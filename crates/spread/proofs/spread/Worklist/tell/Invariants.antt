@@ -1,0 +1,18 @@
+-- `tell`: the edges passed so far are seen.
+use Prim.Native.Nat.{ℕ}
+use mathlib.Core.Bool.{Bool}
+use mathlib.Core.List.{List}
+use Rattle.image.specs.Denoted.{job_of}
+use Rattle.spread.specs.Spread.{numbers}
+use Rattle.spread.specs.Underway.{Taken}
+use Rattle.spread.proofs.Walk.{Walking, number}
+use Rattle.spread.proofs.spread.Worklist.tell.Given as goal
+
+abbrev pub invariant-loop-next : goal.invariant-loop-next
+invariant-loop-next l =
+    (before : List ℕ) (told : ℕ → Bool)
+    → Taken (job_of l.m) l.n l.all before told l.t l.initial.self
+    → Walking (job_of l.m) l.n l.all before told l.t (numbers l.self.marks) l.self.counts l.self.waiting.items (number l.next)
+
+abbrev pub decreases-loop-next : goal.decreases-loop-next
+decreases-loop-next l = number l.next
