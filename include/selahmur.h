@@ -23,7 +23,7 @@
  * constants SELAHMUR_..._NUMBERS say how long an array takes the whole answer.
  *
  * Nothing is kept between calls, nothing is allocated and no file is touched, so threads may call at once, each on a table or a buffer of its
- * own. Calls on one table come one after the other. A call uses some 150 KB of the calling thread's stack at most, whatever the job: close has a
+ * own. Calls on one table come one after the other. A call uses some 100 KB of the calling thread's stack at most, whatever the job: close has a
  * copy of the table there. Rule uses a quarter of a KB for each bracket that is open, some 140 KB at most.
  *
  * Every function is proved to give the numbers and the bytes that the specification gives, for whatever is passed.
