@@ -1,7 +1,7 @@
 -- What the end of a chain says of a state's place. Assumes nothing.
 use Prim.Native.Nat.{ℕ, zero, suc, ◌<◌}
 use mathlib.Core.Path.{◌≡◌, refl, sym, ◌∙◌, ap}
-use mathlib.Core.Bool.{Bool, false, not, ◌&&◌, ◌||◌}
+use mathlib.Core.Bool.{Bool, false, cond, not, ◌&&◌, ◌||◌}
 use mathlib.Core.List.{List}
 use borrow.Author.Tests.{lt-ltb, eq-eqb, ne_eqb, not-true, not-false}
 use lib.ListN.{length, get_or}
@@ -64,22 +64,19 @@ module _ (J : Job) (job : IsJob J) (n s : ℕ) where
   not_owned : (owner J s ≡ n → ⊥) → owns J n s ≡ false
   not_owned other = split (owns J n s) (λ t. absurd (other (owns_owner J n s t))) (λ f. f)
 
-  pub place_none : (owner J s ≡ n → ⊥) → last_into J n s (edge_count J) ≡ 0 → place_of J n s ≡ Outside
+  -- a state that the node does not own is there where one of the node's edges leads to it
+  place_led : (owner J s ≡ n → ⊥) → place_of J n s ≡ cond (any (leads J n s) (edge_count J)) Border Outside
   unfolding place_of
+  place_led other = simp (inner_owned J job n s, fragment_leads, not_owned other)
+
+  pub place_none : (owner J s ≡ n → ⊥) → last_into J n s (edge_count J) ≡ 0 → place_of J n s ≡ Outside
   place_none other e =
-      simp (
-        inner_owned J job n s,
-        fragment_leads,
-        not_owned other,
-        not-true (any (leads J n s) (edge_count J)) (sym (last_none J n s (edge_count J)) ∙ eq-eqb _ 0 e),
-      )
+      place_led other
+      ∙ ap (λ b. cond b Border Outside)
+      (not-true (any (leads J n s) (edge_count J)) (sym (last_none J n s (edge_count J)) ∙ eq-eqb _ 0 e))
 
   pub place_reached : (owner J s ≡ n → ⊥) → (last_into J n s (edge_count J) ≡ 0 → ⊥) → place_of J n s ≡ Border
-  unfolding place_of
   place_reached other e =
-      simp (
-        inner_owned J job n s,
-        fragment_leads,
-        not_owned other,
-        not-false (any (leads J n s) (edge_count J)) (sym (last_none J n s (edge_count J)) ∙ ne_eqb _ 0 e),
-      )
+      place_led other
+      ∙ ap (λ b. cond b Border Outside)
+      (not-false (any (leads J n s) (edge_count J)) (sym (last_none J n s (edge_count J)) ∙ ne_eqb _ 0 e))

@@ -23,7 +23,8 @@ pub extern "C" fn selahmur_offer(
     store(out, offer(text, table, state, subformula));
 }
 
-// A node's cell at a border state takes a message's value, if it is empty. C passes any byte as a value, and all but 0 and 1 are refused. Own number: how many cells are filled, 0 or 1.
+// A node's cell at a border state takes a message's value, if it is empty. C passes any byte as a value, and all but 0 and 1 are refused.
+// Own number: how many cells are filled, 0 or 1.
 #[tactic(auto, using(crate::proofs::AnswerLaws::stored_told), unfolding(calls::specs::Told::accept_told))]
 #[unsafe(no_mangle)]
 pub extern "C" fn selahmur_accept(
