@@ -1,5 +1,5 @@
 -- All questions of a call, from the text read and the first no to its own: whichever the call. Assumes nothing.
-use Rattle.std.proofs.Common.{ℕ, ◌≡◌, refl, sym, ap, ◌∙◌, List}
+use Rattle.std.proofs.Common.{ℕ, ◌≡◌, refl, ap, ◌∙◌}
 use Rattle.text.specs.Field.{Text}
 use Rattle.job.specs.Answer.{accepted, refused}
 use Rattle.job.specs.Job.{decode}

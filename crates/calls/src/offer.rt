@@ -9,7 +9,7 @@ use job::refusal::Refusal;
 use questions::ask_offer;
 use table::cell::owner_cell;
 
-// What a node tells of a state that it owns.
+// What a node tells of a state that it owns. The value is a cell's, a byte as in the table: of accept's any byte may be passed.
 #[derive(Clone, Copy, Debug, PartialEq, Eq)]
 pub struct Message {
     pub state: usize,

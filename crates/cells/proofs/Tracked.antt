@@ -1,9 +1,8 @@
 -- Marks stay right: from one table to the next, through copying and closing. Assumes nothing.
-use Prim.Native.Nat.{ℕ, ◌+◌, ◌<◌}
+use Prim.Native.Nat.{ℕ, ◌<◌}
 use mathlib.Core.Path.{◌≡◌, refl, sym, ◌∙◌, ap}
 use mathlib.Core.Bool.{Bool, true, false, ◌&&◌}
 use mathlib.Core.List.{List}
-use native.Mathlib.Nat.{not-suc-le-zero}
 use native.Mathlib.Omega.{arith}
 use borrow.Author.Tests.{eq-eqb, ne_eqb}
 use lib.ListN.{get_or, replicate, get_or-replicate}
@@ -33,26 +32,6 @@ module _ (t : Table) (i : ℕ) (before : List Bool) where
   pub mark_set : (u : Table) (after : List Bool) → FlagIs i true before after → Mark t u i before after
   mark_set u after flag =
       record { rest = flag.rest; here = λ e. clash (get_or after i false) flag.written e }
-
--- Flags written one after another.
-module _ (at : ℕ → ℕ) (v : Bool) (before : List Bool) where
-  pub flags_none : FlagsAre at v 0 before before
-  flags_none = record { written = λ j l. absurd (not-suc-le-zero l); rest = λ b apart. refl }
-
-  pub flags_more :
-      (i : ℕ) (after later : List Bool)
-      → ((j : ℕ) → at j ≡ at i → j ≡ i)
-      → FlagsAre at v i before after
-      → FlagIs (at i) v after later
-      → FlagsAre at v (i + 1) before later
-  flags_more i after later apart so_far flag =
-      record {
-        written =
-            λ j l.
-            by_equal j i (λ e. rw e flag.written)
-            (λ f. flag.rest (at j) (λ e. f (apart j e)) ∙ so_far.written j (omega arith));
-        rest = λ b other. flag.rest b (other i (omega arith)) ∙ so_far.rest b (λ j l. other j (omega arith));
-      }
 
 -- Marks of the columns of a node, one change after another.
 module _ (J : Job) (n : ℕ) (at : ℕ → ℕ) where

@@ -1,15 +1,17 @@
 -- The search for the smallest open subformula, and closing it. Assumes nothing.
 use Prim.Native.Nat.{ℕ, ◌<◌}
-use mathlib.Core.Path.{◌≡◌, ◌∙◌, ap}
-use mathlib.Core.Bool.{Bool, true}
+use mathlib.Core.Path.{◌≡◌, sym, ◌∙◌, ap}
+use mathlib.Core.Bool.{Bool, true, false}
 use mathlib.Core.List.{List}
-use Rattle.job.specs.Job.{Job, subformula_count, subformula}
+use Rattle.law.proofs.Bounded.{any_intro, any_none, first_is, first_none}
+use Rattle.job.specs.Job.{Job, size, subformula_count, subformula}
 use Rattle.job.specs.Written.{IsJob}
 use Rattle.job.specs.Rule.{rule_of, rule_at, closed_value}
 use Rattle.job.specs.declared.rule.Rule.{Rule}
 use Rattle.job.specs.declared.subformula.Subformula.{Subformula}
-use Rattle.cells.specs.Table.{Table}
-use Rattle.cells.specs.Close.{smallest_open, close_table}
+use Rattle.cells.specs.Table.{Table, owner_cell, is_empty}
+use Rattle.cells.specs.Close.{open?, smallest_open, close_table}
+use Rattle.cells.proofs.Fill.{is_empty_lem}
 use Rattle.cells.specs.Rest.{column_flag, Tracked, FlagsAre}
 use Rattle.cells.proofs.Tracked.{close_tracked}
 use Rattle.table.specs.Filling.{Leaves, part, of_subformula}
@@ -17,6 +19,22 @@ use Rattle.table.proofs.Parts.{leaves_is}
 use Rattle.closing.specs.Closed.{constant}
 
 module _ (J : Job) (t : Table) where
+  pub open_here : (s k : ℕ) → s < size J → owner_cell J t s k ≡ 2 → open? J t k ≡ true
+  unfolding open?
+  open_here s k l e = any_intro (λ s. is_empty (owner_cell J t s k)) (size J) s l (is_empty_lem (owner_cell J t s k) e)
+
+  pub open_nowhere : (k : ℕ) → ((s : ℕ) → s < size J → is_empty (owner_cell J t s k) ≡ false) → open? J t k ≡ false
+  unfolding open?
+  open_nowhere k = any_none (λ s. is_empty (owner_cell J t s k)) (size J)
+
+  pub smallest_open_is : (k : ℕ) → k < subformula_count J → ((j : ℕ) → j < k → open? J t j ≡ false) → open? J t k ≡ true → k ≡ smallest_open J t
+  unfolding smallest_open
+  smallest_open_is k l before here = sym (first_is (open? J t) (subformula_count J) k l before here)
+
+  pub smallest_none : ((j : ℕ) → j < subformula_count J → open? J t j ≡ false) → subformula_count J ≡ smallest_open J t
+  unfolding smallest_open
+  smallest_none before = sym (first_none (open? J t) (subformula_count J) before)
+
   -- What closing fills is its value in every cell of the subformula.
   pub all_closed :
       (k v : ℕ) (after : Table) (told : ℕ)

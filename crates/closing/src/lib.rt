@@ -14,22 +14,22 @@ use job::rule::{closed_value, rule_of};
 use table::cell::owner_cell;
 use table::column::fill_column;
 
-// Whether some owner's cell of subformula k is empty.
-fn is_open(m: &Image, table: &[u8], k: usize) -> bool
-    requires lent { Lent m.now table.now }
-    requires k_bound { k < subformula_count (job_of m.now) }
-    ensures { result ≡ open? (job_of m.now) table.now k }
-{
-    (0..m.states()).any(|s| owner_cell(m, table, s, k) == 2)
-}
-
-// The smallest k for which some owner's cell is empty.
+// The smallest k for which some owner's cell is empty. A nested search that a label leaves, and no `find` and `any`: document 01 names this form.
 pub fn smallest_open(m: &Image, table: &[u8]) -> Option<usize>
     requires { Lent m.now table.now }
     ensures within { IfSome result (λ k. k < subformula_count (job_of m.now)) }
     ensures value { unwrap_or result (subformula_count (job_of m.now)) ≡ smallest_open (job_of m.now) table.now }
 {
-    (0..m.subformulas()).find(|&k| is_open(m, table, k))
+    'search: {
+        for k in 0..m.subformulas() {
+            for s in 0..m.states() {
+                if owner_cell(m, table, s, k) == 2 {
+                    break 'search Some(k);
+                }
+            }
+        }
+        None
+    }
 }
 
 // Makes every empty cell of k, the smallest open subformula, in every fragment the value that its rule closes with. Returns how many cells are filled.

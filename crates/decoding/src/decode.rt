@@ -1,10 +1,12 @@
-// What is derived from the lines of a text, laid part by part behind them.
+// What is derived from the lines of a text, laid part by part from them. That they say a job, `IsJob`, is asked by each function: in a ghost field it would be
+// truncated, as the image's is, and each proof would begin by taking it apart.
 ghost use Rattle.std.specs.Prelude.{ℕ, ◌≡◌, ◌+◌, ◌<◌, ◌≤◌, [], get_or};
 ghost use Rattle.job.specs.Job.{size, owner};
 ghost use Rattle.job.specs.Written.{IsJob, edge_count};
 ghost use Rattle.image.specs.Lines.{lines_job};
 ghost use Rattle.image.specs.Image.{IsImage, IsFragment, Runs, Chains, Ends, Fragments, edge_from, edge_to, first_edge, place_of};
 
+use arrayvec::ArrayVec;
 use image::job_lines::{Edge, JobLines};
 use image::place::Place;
 use image::space::{Fragment, Space};
@@ -15,10 +17,10 @@ fn run_start(lines: &JobLines, from: usize, s: usize) -> usize
     requires from_bound { from ≤ first_edge (lines_job lines.now).structure s }
     ensures { (result ≡ first_edge (lines_job lines.now).structure s) × (result ≤ 2048) }
 {
-    let edges = lines.header.edges;
-    (from..edges)
-        .find(|&e| s <= usize::from(lines.edges[e].source))
-        .unwrap_or(edges)
+    let edges = lines.edges.as_slice();
+    (from..edges.len())
+        .find(|&e| s <= usize::from(edges[e].source))
+        .unwrap_or(edges.len())
 }
 
 // Where each state's run of edges begins, and behind them where the last run ends. Edges ascend by source, so one pass over the
@@ -28,7 +30,7 @@ fn lay_first(lines: &JobLines, first: &mut [u16; 257])
     ensures { Runs (lines_job lines.now) (size (lines_job lines.now) + 1) first.new }
 {
     let mut e = 0;
-    for s in 0..lines.header.states + 1 {
+    for s in 0..lines.states.len() + 1 {
         e = run_start(lines, e, s);
         first[s] = e as u16;
     }
@@ -41,8 +43,8 @@ fn chain_of(lines: &JobLines, e: usize) -> (usize, usize)
     ensures node { (result.0 ≡ owner (lines_job lines.now) (edge_from (lines_job lines.now).structure e)) × (result.0 < 8) }
     ensures state { (result.1 ≡ edge_to (lines_job lines.now).structure e) × (result.1 < 256) }
 {
-    let Edge { source, target } = lines.edges[e];
-    let owner = lines.states[usize::from(source)].owner;
+    let Edge { source, target } = lines.edges.as_slice()[e];
+    let owner = lines.states.as_slice()[usize::from(source)].owner;
     (usize::from(owner), usize::from(target))
 }
 
@@ -52,21 +54,21 @@ fn lay_chains(lines: &JobLines, last: &mut [[u16; 256]; 8], next: &mut [u16; 204
     ensures { Chains (lines_job lines.now) (edge_count (lines_job lines.now)) last.new next.new }
 {
     *last = [[0; 256]; 8];
-    for e in 0..lines.header.edges {
+    for e in 0..lines.edges.len() {
         let (node, state) = chain_of(lines, e);
         next[e] = last[node][state];
         last[node][state] = (e + 1) as u16;
     }
 }
 
-// A state's place in node n's fragment: its owner's own states have edges out there, the others that the node's edges end at have none.
+// A state's place in node n's fragment: the states that n owns have edges out there, the others that n's edges end at have none.
 fn place_in(lines: &JobLines, n: usize, last: &[u16; 256], s: usize) -> Place
     requires is_job { IsJob (lines_job lines.now) }
     requires s_bound { s < size (lines_job lines.now) }
     requires ends { Ends (lines_job lines.now) n last.now }
     ensures { result ≡ place_of (lines_job lines.now) n s }
 {
-    if usize::from(lines.states[s].owner) == n {
+    if usize::from(lines.states.as_slice()[s].owner) == n {
         return Place::Inner;
     }
     if last[s] == 0 {
@@ -82,21 +84,15 @@ fn fragment_of(lines: &JobLines, n: usize, last: &[u16; 256]) -> Fragment
     ensures { IsFragment (lines_job lines.now) n result }
 {
     let mut places = [Place::Outside; 256];
-    let mut states = [0; 256];
-    let mut size = 0;
-    for s in 0..lines.header.states {
+    let mut states = ArrayVec::new();
+    for s in 0..lines.states.len() {
         let place = place_in(lines, n, last, s);
         places[s] = place;
         if place != Place::Outside {
-            states[size] = s as u8;
-            size += 1;
+            states.push(s as u8);
         }
     }
-    Fragment {
-        places,
-        size,
-        states,
-    }
+    Fragment { places, states }
 }
 
 // The fragments of all nodes.
@@ -105,7 +101,7 @@ fn lay_fragments(lines: &JobLines, last: &[[u16; 256]; 8], fragments: &mut [Frag
     requires ends { (n : ℕ) → n < 8 → Ends (lines_job lines.now) n (get_or last.now n []) }
     ensures { Fragments (lines_job lines.now) (lines_job lines.now).nodes fragments.new }
 {
-    for n in 0..lines.header.nodes {
+    for n in 0..lines.nodes {
         fragments[n] = fragment_of(lines, n, &last[n]);
     }
 }

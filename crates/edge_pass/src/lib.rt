@@ -52,6 +52,12 @@ impl Order {
     }
 }
 
+fn first_unmarked(marks: &[bool]) -> Option<usize>
+    ensures { result ≡ position not marks.now }
+{
+    marks.iter().position(|&marked| !marked)
+}
+
 impl Kept {
     // Before the first edge line: line 1 has told the number of states.
     #[tactic(auto, unfolding(crate::specs::EdgePass::start))]
@@ -78,30 +84,18 @@ impl Kept {
         ensures { self.new ≡ after self.old source target }
     {
         self.order = self.order.after(source, target);
-        mark_start(&mut self.starts, source);
+        // question 6 refuses what is none of 256
+        if source < self.starts.len() {
+            self.starts[source] = true;
+        }
     }
-}
 
-// What is kept for question 7: the state that the line starts from is marked, if it is one of 256.
-pub fn mark_start(starts: &mut [bool; 256], source: usize)
-    ensures { starts.new ≡ set starts.old source true }
-{
-    if source < starts.len() {
-        starts[source] = true;
+    // The lowest state that no edge line starts from, if there is one.
+    pub fn terminal_state(&self) -> Option<usize>
+        requires { self.now.order.states ≤ 256 }
+        ensures lowest { unwrap_or result self.now.order.states ≡ terminal_state self.now.starts self.now.order.states }
+        ensures below { IfSome result (λ s. s < self.now.order.states) }
+    {
+        first_unmarked(&self.starts[..self.order.states])
     }
-}
-
-fn first_unmarked(marks: &[bool]) -> Option<usize>
-    ensures { result ≡ position not marks.now }
-{
-    marks.iter().position(|&marked| !marked)
-}
-
-// The lowest state that no edge line starts from, if there is one.
-pub fn terminal_state(starts: &[bool; 256], states: usize) -> Option<usize>
-    requires { states ≤ 256 }
-    ensures lowest { unwrap_or result states ≡ terminal_state starts.now states }
-    ensures below { IfSome result (λ s. s < states) }
-{
-    first_unmarked(&starts[..states])
 }

@@ -1,4 +1,5 @@
 // The steps of all nodes and copying to border states, one behind the other, as in a round. A table is settled where these fill nothing.
+// Image, table and what is pending are three parameters, and `Running` says in each contract that they fit: crate table tells why no struct has them.
 #![tactic(auto)]
 
 ghost use Rattle.cells.specs.Finish.{steps_up_to, exchange as exchange_of};
@@ -12,7 +13,7 @@ use stepping::stale::step_stale;
 
 pub mod settled;
 
-// The steps of all nodes. What a loop fills is summed by hand, here and in the crates below: of `map(..).sum()` it was tried, and not proved, that the
+// The steps of all nodes. What a loop fills is summed by hand, here and in other crates: of `map(..).sum()` it was tried, and not proved, that the
 // sum fits and which table the closure leaves.
 fn steps(m: &Image, table: &mut [u8], pending: &mut Pending) -> usize
     requires { Running m.now table.old pending.old }

@@ -1,5 +1,5 @@
-// Finish from a fresh table, as the programs do it: line 1's numbers, how many cells the table for a text has, and finish on so many of the empty cells of an array
-// that has room for every job's.
+// Finish from a fresh table, as the programs do it: how many cells the table for a text has, and finish on so many of the empty cells of an array that
+// has room for every job's.
 #![tactic(auto)]
 
 ghost use Rattle.std.specs.Prelude.{◌≡◌, ◌≤◌, length, replicate, take};
@@ -12,7 +12,8 @@ use job::refusal::Refusal;
 use layout::head::head;
 use rounds::finish::Outcome;
 
-// How many cells the table for a text has, if the text is accepted. Line 1 tells; finish reads it again, with the rest.
+// How many cells the table for a text has, and 0 where line 1 is refused, since finish refuses the text then whatever it is lent. Line 1 tells; finish
+// reads it again, with the rest.
 pub fn table_size(text: &[u8]) -> usize
     ensures { TableSize text.now result }
 {
@@ -22,7 +23,7 @@ pub fn table_size(text: &[u8]) -> usize
     }
 }
 
-// Finish on the first cells.
+// Finish on the first cells. An array and a size, so that what the slice leaves behind it is said once for both programs.
 pub fn finish_fresh(text: &[u8], cells: &mut [u8], size: usize) -> Result<Outcome, Refusal>
     requires size_in_bounds { size ≤ length cells.old }
     requires cells_value { cells.old ≡ replicate 65536 2 }

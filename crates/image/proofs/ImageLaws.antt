@@ -1,26 +1,21 @@
 -- What is read of an image, part by part. Each law's last argument is a number that was read, so that it is what an accessor promises of it.
 -- Assumes nothing.
 use Prim.Native.Nat.{ℕ, zero, suc, ◌-◌, ◌<◌, ◌≤◌}
-use mathlib.Core.Path.{◌≡◌, ◌∙◌}
+use mathlib.Core.Path.{◌≡◌}
 use mathlib.Core.Bool.{Bool, true, false, cond}
 use mathlib.Core.List.{[]}
 use native.Mathlib.Nat.{le_refl}
 use native.Mathlib.Omega.{arith}
-use lib.ListN.{get_or, take}
+use lib.ListN.{get_or}
 use Rattle.std.proofs.Common.{Option, Some, None, IfSome, SomeIff}
-use Rattle.std.proofs.lemmas.List.{get_or-take, length-take-le}
-use Rattle.law.proofs.Lists.{tab_is}
-use Rattle.job.specs.Job.{Job, size, subformula_count, owner, subformula}
-use Rattle.job.specs.Written.{IsJob, edge_count, Operands}
-use Rattle.job.specs.declared.subformula.Subformula.{Subformula}
-use Rattle.job.specs.declared.subformula.Subformula.TheVariants.{Atom}
-use Rattle.image.specs.Image.{IsImage, edge_from, edge_to, first_edge, leads, last_into, place_of, fragment_size, fragment_state, fragment, fragment_at}
+use Rattle.job.specs.Job.{Job, size, owner}
+use Rattle.job.specs.Written.{IsJob, edge_count}
+use Rattle.image.specs.Image.{IsImage, edge_from, edge_to, first_edge, leads, last_into, place_of, fragment}
 use Rattle.image.specs.Denoted.{job_of}
 use Rattle.image.specs.declared.image.Image.{Image}
 use Rattle.image.specs.declared.place.Place.TheVariants.{Outside}
+use Rattle.image.specs.declared.space.Fragment.{Fragment}
 use Rattle.image.proofs.Made.{image_made}
-use Rattle.image.proofs.LinesLaws.{formula_line}
-use Rattle.image.proofs.Ranks.{fragment_small}
 use Rattle.image.proofs.Runs.{first_few}
 
 -- The last edge into a state is one of those looked at.
@@ -72,29 +67,12 @@ module _ (m : Image) where
       let f = last_few (job_of m) (owner (job_of m) (edge_from (job_of m).structure e)) (edge_to (job_of m).structure e) e in
       (omega arith, omega arith)
 
+  -- the fragment that was read
   pub place_read :
-      (n s : ℕ) → n < (job_of m).nodes → s < size (job_of m) → get_or (fragment_at m.space.now.fragments n).places s Outside ≡ place_of (job_of m) n s
-  place_read n s l g = (is.fragments n l).listed.place_at s g
-
-  pub size_small : (n : ℕ) → n < (job_of m).nodes → (fragment_at m.space.now.fragments n).size ≤ 256
-  size_small n l = omega (arith, (is.fragments n l).counted, fragment_small (job_of m) image_job n)
-
-  pub subformula_read :
-      (k : ℕ) → k < subformula_count (job_of m) → (r : Subformula) → r ≡ get_or m.space.now.lines.formula k (Atom 0)
-      → (r ≡ subformula (job_of m).formula k) × Operands k r
-  unfolding subformula
-  subformula_read k l r e =
-      let same : r ≡ subformula (job_of m).formula k = cc (e, formula_line m.space.now.lines k l) in
-      (same, rw same (image_job.operands k l))
+      (n s : ℕ) → n < (job_of m).nodes → s < size (job_of m) → (f : Fragment)
+      → get_or (get_or m.space.now.fragments n f).places s Outside ≡ place_of (job_of m) n s
+  place_read n s l g f = (is.fragments n l f).place_at s g
 
   pub fragment_read :
-      (n : ℕ) → n < (job_of m).nodes
-      → take (fragment_at m.space.now.fragments n).size (fragment_at m.space.now.fragments n).states ≡ fragment (job_of m) n
-  unfolding fragment
-  fragment_read n l =
-      let f = fragment_at m.space.now.fragments n in
-      let is_f = is.fragments n l in
-      rw is_f.counted
-      (tab_is (fragment_state (job_of m) n) (fragment_size (job_of m) n) (take (fragment_size (job_of m) n) f.states) 0
-      (length-take-le (fragment_size (job_of m) n) f.states (omega (arith, is_f.long, fragment_small (job_of m) image_job n)))
-      (λ i g. get_or-take (fragment_size (job_of m) n) f.states i 0 g ∙ is_f.listed.state_at i g))
+      (n : ℕ) → n < (job_of m).nodes → (f : Fragment) → (get_or m.space.now.fragments n f).states.items ≡ fragment (job_of m) n
+  fragment_read n l f = (is.fragments n l f).listed

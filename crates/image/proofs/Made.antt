@@ -3,7 +3,7 @@
 use Prim.Native.Nat.{ℕ, zero, suc, ◌≤◌}
 use mathlib.Core.Path.{◌≡◌, refl, sym, ◌∙◌, ap}
 use mathlib.Core.Bool.{Bool, true, ◌&&◌, ◌||◌, Bool-set}
-use mathlib.Core.List.{[]}
+use mathlib.Core.List.{List, [], is_set}
 use lib.ListN.{length, get_or}
 use mathlib.Core.Logic.{∥∥₁_elim, inl, inr, ⊎_elim}
 use native.Mathlib.Bridge.{le_prop}
@@ -21,7 +21,7 @@ use Rattle.job.specs.declared.rule.Condition.TheVariants.{Always, Holds, Fails}
 use Rattle.job.specs.declared.rule.Rule.{Rule}
 use Rattle.job.specs.declared.rule.Rule.TheVariants.{Atom, Not, And, Next, Sets}
 use Rattle.image.specs.Lines.{lines_job}
-use Rattle.image.specs.Image.{IsImage, edge_from, edge_to, first_edge, last_into, place_of, fragment_size, fragment_state, fragment_at}
+use Rattle.image.specs.Image.{IsImage, edge_from, edge_to, first_edge, last_into, place_of, fragment}
 use Rattle.image.specs.declared.place.Place.{Place}
 use Rattle.image.specs.declared.place.Place.TheVariants.{Outside, Border, Inner}
 use Rattle.image.specs.declared.space.Space.{Space}
@@ -53,6 +53,9 @@ module _ {A : Type 0} (t : ∥ A ∥₁) where
 
   same_number : (a b : ℕ) → (A → a ≡ b) → a ≡ b
   same_number a b f = ∥∥₁_elim t (ℕ_set a b) f
+
+  same_numbers : (a b : List ℕ) → (A → a ≡ b) → a ≡ b
+  same_numbers a b f = ∥∥₁_elim t (is_set ℕ_set a b) f
 
   same_test : (a b : Bool) → (A → a ≡ b) → a ≡ b
   same_test a b f = ∥∥₁_elim t (Bool-set a b) f
@@ -137,16 +140,11 @@ image_again m t =
                 same_number t (get_or m.next e 0) (last_into J (owner J (edge_from J.structure e)) (edge_to J.structure e) e) (λ x. x.chains.next_at e l);
           };
       fragments =
-          λ n l.
-          let f = fragment_at m.fragments n in
+          λ n l past.
+          let f = get_or m.fragments n past in
           record {
-            long = same_number t (length f.states) 256 (λ x. (x.fragments n l).long);
-            listed =
-                record {
-                  place_at = λ u g. same_place t (get_or f.places u Outside) (place_of J n u) (λ x. (x.fragments n l).listed.place_at u g);
-                  state_at = λ i g. same_number t (get_or f.states i 0) (fragment_state J n i) (λ x. (x.fragments n l).listed.state_at i g);
-                };
-            counted = same_number t f.size (fragment_size J n) (λ x. (x.fragments n l).counted);
+            place_at = λ s g. same_place t (get_or f.places s Outside) (place_of J n s) (λ x. (x.fragments n l past).place_at s g);
+            listed = same_numbers t f.states.items (fragment J n) (λ x. (x.fragments n l past).listed);
           };
     }
 

@@ -67,22 +67,14 @@ pub record Chains (J : Job) (e : ℕ) (last : List (List ℕ)) (next : List ℕ)
   pub last_at : (n s : ℕ) → n < 8 → s < 256 → get_or (get_or last n []) s 0 ≡ last_into J n s e
   pub next_at : (d : ℕ) → d < e → get_or next d 0 ≡ last_into J (owner J (edge_from J.structure d)) (edge_to J.structure d) d
 
--- The first s states have their place in node n's fragment, and the first k states of the fragment are listed.
-pub record Listed (J : Job) (n s k : ℕ) (places : List Place) (states : List ℕ) : Type 0 where
-  pub place_at : (u : ℕ) → u < s → get_or places u Outside ≡ place_of J n u
-  pub state_at : (i : ℕ) → i < k → get_or states i 0 ≡ fragment_state J n i
-
+-- Each state has its place in node n's fragment, and the states of the fragment are listed.
 pub record IsFragment (J : Job) (n : ℕ) (f : Fragment) : Type 0 where
-  pub long : length f.states ≡ 256
-  pub counted : f.size ≡ fragment_size J n
-  pub listed : Listed J n (size J) (fragment_size J n) f.places f.states
+  pub place_at : (s : ℕ) → s < size J → get_or f.places s Outside ≡ place_of J n s
+  pub listed : f.states.items ≡ fragment J n
 
-abbrev pub fragment_at : List Fragment → ℕ → Fragment
-fragment_at fs n = get_or fs n (record { places = []; size = 0; states = [] })
-
--- The fragments of the first nodes.
+-- The fragments of the first nodes, whatever is read past the end of the list.
 abbrev pub Fragments : Job → ℕ → List Fragment → Type 0
-Fragments J nodes fs = (n : ℕ) → n < nodes → IsFragment J n (fragment_at fs n)
+Fragments J nodes fs = (n : ℕ) → n < nodes → (past : Fragment) → IsFragment J n (get_or fs n past)
 
 pub record IsImage (m : Space) : Type 0 where
   pub is_job : IsJob (lines_job m.lines)

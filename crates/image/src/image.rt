@@ -30,47 +30,47 @@ impl<'a> Image<'a> {
     pub fn states(&self) -> usize
         ensures { (result ≡ size (job_of self.now)) × (1 ≤ result) × (result ≤ 256) }
     {
-        self.space.lines.header.states
+        self.space.lines.states.len()
     }
 
     pub fn subformulas(&self) -> usize
         ensures { (result ≡ subformula_count (job_of self.now)) × (1 ≤ result) × (result ≤ 32) }
     {
-        self.space.lines.header.subformulas
+        self.space.lines.formula.len()
     }
 
     pub fn nodes(&self) -> usize
         ensures { (result ≡ (job_of self.now).nodes) × (1 ≤ result) × (result ≤ 8) }
     {
-        self.space.lines.header.nodes
+        self.space.lines.nodes
     }
 
     pub fn owner(&self, s: usize) -> usize
         requires { s < size (job_of self.now) }
         ensures { (result ≡ owner_of (job_of self.now) s) × (result < (job_of self.now).nodes) × (result < 8) }
     {
-        usize::from(self.space.lines.states[s].owner)
+        usize::from(self.space.lines.states.as_slice()[s].owner)
     }
 
     pub fn label(&self, s: usize) -> u16
         requires { s < size (job_of self.now) }
         ensures { result ≡ label_of (job_of self.now) s }
     {
-        self.space.lines.states[s].label
+        self.space.lines.states.as_slice()[s].label
     }
 
     pub fn source(&self, e: usize) -> usize
         requires { e < edge_count (job_of self.now) }
         ensures { (result ≡ edge_from (job_of self.now).structure e) × (result < size (job_of self.now)) × (result < 256) }
     {
-        usize::from(self.space.lines.edges[e].source)
+        usize::from(self.space.lines.edges.as_slice()[e].source)
     }
 
     pub fn target(&self, e: usize) -> usize
         requires { e < edge_count (job_of self.now) }
         ensures { (result ≡ edge_to (job_of self.now).structure e) × (result < size (job_of self.now)) × (result < 256) }
     {
-        usize::from(self.space.lines.edges[e].target)
+        usize::from(self.space.lines.edges.as_slice()[e].target)
     }
 
     // The first edge out of state s; for the number of states, the end of the last state's edges.
@@ -106,7 +106,9 @@ impl<'a> Image<'a> {
         requires { (n < (job_of self.now).nodes) × (s < size (job_of self.now)) }
         ensures { result ≡ place_of (job_of self.now) n s }
     {
-        self.space.fragments[n].places[s]
+        // through a slice: the borrow checker does not index an array whose elements hold a vector
+        let fragments = &self.space.fragments[..];
+        fragments[n].places[s]
     }
 
     // The states of node n's fragment, ascending.
@@ -114,8 +116,8 @@ impl<'a> Image<'a> {
         requires { n < (job_of self.now).nodes }
         ensures { result.now ≡ fragment_of (job_of self.now) n }
     {
-        let fragment = &self.space.fragments[n];
-        &fragment.states[..fragment.size]
+        let fragments = &self.space.fragments[..];
+        fragments[n].states.as_slice()
     }
 
     // The k-th subformula.
@@ -123,6 +125,6 @@ impl<'a> Image<'a> {
         requires { k < subformula_count (job_of self.now) }
         ensures { (result ≡ subformula_of (job_of self.now).formula k) × Operands k result }
     {
-        self.space.lines.formula[k]
+        self.space.lines.formula.as_slice()[k]
     }
 }

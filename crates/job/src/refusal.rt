@@ -1,5 +1,5 @@
 // Why a call is refused: the first question that is answered no. Each case has a number, by which callers know it.
-ghost use Rattle.std.specs.Prelude.{◌≡◌};
+ghost use Rattle.std.specs.Prelude.{◌≡◌, [], ◌∷◌};
 ghost use Rattle.job.specs.Refused.{number_of, line_of_refusal};
 
 // A case about the lines of a text has the line, counted from 1.
@@ -67,7 +67,7 @@ impl Refusal {
         }
     }
 
-    // The line that it is about, 0 for none.
+    // The line that it is about, 0 for none, as callers are told.
     pub fn line(self) -> usize
         ensures { result ≡ line_of_refusal self }
     {
@@ -80,5 +80,12 @@ impl Refusal {
             | Refusal::SubformulaLine(line) => line,
             _ => 0,
         }
+    }
+
+    // Number and line, as they are told.
+    pub fn numbers(self) -> [usize; 2]
+        ensures { result ≡ number_of self ∷ line_of_refusal self ∷ [] }
+    {
+        [usize::from(self.number()), self.line()]
     }
 }

@@ -4,6 +4,8 @@ ghost use Rattle.job.specs.Rule.{until, global, rule_of, temporal, closed_value}
 
 use crate::subformula::Subformula;
 
+// Over all successors or over some is a `bool`, here and below: it picks `all` or `any`, and `!all` is the other one, which an enum would want a method for.
+
 // What is asked of a state: nothing, or that an operand is true there, or that it is false.
 #[derive(Clone, Copy, Debug, PartialEq, Eq)]
 pub enum Condition {
@@ -84,7 +86,7 @@ pub fn is_temporal(r: Rule) -> bool
     matches!(r, Rule::Next(..) | Rule::Sets(..))
 }
 
-// What closing fills: the value that the smallest set does not give.
+// What closing fills: the value that the smallest set does not give. By another rule nothing is closed.
 pub fn closed_value(r: Rule) -> u8
     ensures { result ≡ closed_value r }
 {

@@ -16,8 +16,19 @@ pub enum Subformula {
     Ag(usize),
 }
 
+// What stands where no subformula is laid.
+impl Default for Subformula {
+    ghost use Rattle.job.specs.declared.subformula.Subformula.TheVariants.{Atom};
+
+    ghost is_default = { λ f. f ≡ Atom 0 };
+
+    fn default() -> Self {
+        Subformula::Atom(0)
+    }
+}
+
 // The k-th subformula, by the numbers of its line. A kind with one operand has b = 0.
-// Three numbers and no struct, since the image has kinds, left and right operands in regions of their own.
+// Three numbers and no array, since the definition takes three: of an array the contract would name each by its place.
 #[tactic(auto, unfolding(crate::specs::Formula::parsed, crate::specs::Formula::atomic, crate::specs::Formula::unary, crate::specs::Formula::binary))]
 pub fn parse(k: usize, kind: usize, a: usize, b: usize) -> Option<Subformula>
     ensures { result ≡ parsed k kind a b }

@@ -3,7 +3,7 @@
 use Prim.Native.Nat.{ℕ, zero, suc, ◌+◌, ◌<◌}
 use mathlib.Core.Path.{◌≡◌, refl, sym, ◌∙◌, ap, ap₂}
 use mathlib.Core.Bool.{Bool, true, false, true≢false, ◌&&◌, ◌||◌}
-use mathlib.Core.List.{List, [], ◌∷◌, ◌++◌}
+use mathlib.Core.List.{List, [], ◌∷◌, ◌++◌, map}
 use mathlib.Core.Logic.{⊎_elim}
 use native.Mathlib.Nat.{not-suc-le-zero, le_of_suc-le-suc, add-zero, zero-add, add-suc, suc-add}
 use native.Mathlib.Omega.{arith}
@@ -38,6 +38,16 @@ module _ {A : Type 0} (f : ℕ → A) where
   unfolding tab
   tab_at n j d l = from_at 0 n j d l ∙ ap f (zero-add j)
 
+  from_more : (i n : ℕ) → from f i (suc n) ≡ from f i n ++ f (i + n) ∷ []
+  unfolding from
+  from_more i zero = rw add-zero refl
+  from_more i (suc n) = rw (add-suc, ← (suc-add i n)) (ap (λ l. f i ∷ l) (from_more (suc i) n))
+
+  -- one more
+  pub tab_more : (n : ℕ) → tab f (suc n) ≡ tab f n ++ f n ∷ []
+  unfolding tab
+  tab_more n = from_more 0 n ∙ ap (λ k. from f 0 n ++ f k ∷ []) (zero-add n)
+
   -- a list with these elements is the tabulated one
   pub tab_is : (n : ℕ) (l : List A) (d : A) → length l ≡ n → ((i : ℕ) → i < n → get_or l i d ≡ f i) → l ≡ tab f n
   tab_is n l d e same =
@@ -55,6 +65,14 @@ tab_first f n = ap (λ l. f 0 ∷ l) (go n 0)
     go : (n i : ℕ) → from f (suc i) n ≡ from (λ j. f (suc j)) i n
     go zero i = refl
     go (suc n) i = ap (λ l. f (suc i) ∷ l) (go n (suc i))
+
+pub map_tab : {A B : Type 0} (g : A → B) (f : ℕ → A) (n : ℕ) → map g (tab f n) ≡ tab (λ i. g (f i)) n
+unfolding tab from
+map_tab g f n = go n 0
+  where
+    go : (n i : ℕ) → map g (from f i n) ≡ from (λ j. g (f j)) i n
+    go zero i = refl
+    go (suc n) i = ap (λ l. g (f i) ∷ l) (go n (suc i))
 
 pub tab_same : {A : Type 0} (f g : ℕ → A) (n : ℕ) (d : A) → ((i : ℕ) → i < n → f i ≡ g i) → tab f n ≡ tab g n
 tab_same f g n d same = tab_is g n (tab f n) d (tab_length f n) (λ i l. tab_at f n i d l ∙ same i l)

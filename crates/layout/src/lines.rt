@@ -34,7 +34,7 @@ fn line_start(pairs: usize, number: usize) -> usize
     21 + 11 * pairs + 16 * (number - (2 + pairs))
 }
 
-// A part of a text: where it begins, and how many bytes it has.
+// A part of a text: where it begins, and how many bytes it has. Numbers and no slice, since C is told them.
 #[derive(Clone, Copy, Debug, PartialEq, Eq)]
 pub struct Part {
     pub start: usize,

@@ -2,80 +2,67 @@
 use Prim.Native.Nat.{ℕ, ◌+◌, ◌<◌, ◌≤◌}
 use mathlib.Core.Path.{◌≡◌, refl, sym, ◌∙◌, ap}
 use mathlib.Core.Bool.{Bool, true, false, not}
-use mathlib.Core.List.{List, ◌++◌}
+use mathlib.Core.List.{List, [], ◌∷◌, ◌++◌}
 use native.Mathlib.Numerals.{add-one}
 use native.Mathlib.Omega.{arith}
 use borrow.Author.Count.{below_none, below_more}
-use lib.ListN.{length, take, set, length-set, get_or-append}
-use lib.Seq.{get_or-set_same, get_or-set_other}
+use lib.ListN.{length}
 use Rattle.std.proofs.Common.{Ok, Err}
-use Rattle.std.proofs.lemmas.List.{length-take-le}
 use Rattle.law.specs.Bounded.{first}
+use Rattle.law.specs.Lists.{tab, from}
 use Rattle.law.proofs.Bounded.{first_fails, first_none_fails, first_le}
+use Rattle.law.proofs.Lists.{tab_length, tab_more}
 use Rattle.layout.specs.Lines.{right_after}
 use Rattle.layout.proofs.LinesLaws.{right_first}
 use Rattle.job.specs.declared.refusal.Refusal.{Refusal}
 use Rattle.job.specs.declared.refusal.Refusal.TheVariants.{MalformedLine}
-use Rattle.line_reader.specs.LinesRead.{Lines, formed_lines, Laid, LinesRead, right_lines}
+use Rattle.line_reader.specs.LinesRead.{Lines, formed_lines, LinesRead, right_lines}
 
 module _ {L K : Type 0} (lines : Lines L K) where
-  -- The first n lines are well-formed, the part of the array that is for the lines holds what they say, and this is kept after them.
+  -- The first n lines are well-formed, what they say is laid, and this is kept after them.
   pub record SoFar (n : ℕ) (kept : K) (m : List L) : Type 0 where
-    pub long : length m ≡ lines.count
     pub formed_all : (i : ℕ) → i < n → lines.is_formed i ≡ true
     pub kept_is : kept ≡ lines.kept_after n
-    pub laid : Laid lines n m
+    pub laid : m ≡ tab lines.says n
 
-  pub none_read : (kept : K) (m : List L) → lines.count ≤ length m → kept ≡ lines.kept_after 0 → SoFar 0 kept (take lines.count m)
-  none_read kept m room e =
-      record { long = length-take-le lines.count m room; formed_all = below_none _; kept_is = e; laid = below_none _ }
+  pub none_read : (kept : K) (m : List L) → m ≡ [] → kept ≡ lines.kept_after 0 → SoFar 0 kept m
+  unfolding tab from
+  none_read kept m empty e = record { formed_all = below_none _; kept_is = e; laid = empty }
 
   module _ (n : ℕ) (kept : K) (m : List L) (so : SoFar n kept m) where
+    pub so_many : length m ≡ n
+    so_many = ap length so.laid ∙ tab_length lines.says n
+
     pub line_read :
-        (next : K) (line : L)
-        → n < lines.count
+        (next : K) (line : L) (after : List L)
         → lines.is_formed n ≡ true
         → next ≡ lines.kept_after (n + 1)
+        → after ≡ m ++ line ∷ []
         → line ≡ lines.says n
-        → SoFar (n + 1) next (set m n line)
-    line_read next line l f e says =
-        let inside : n < length m = omega (arith, so.long) in
+        → SoFar (n + 1) next after
+    line_read next line after f e pushed says =
         record {
-          long = length-set m n line ∙ so.long;
           formed_all = below_more _ n so.formed_all f;
           kept_is = e;
-          laid =
-              below_more _ n
-              (λ i l. get_or-set_other m n i line lines.none (λ q. omega arith) ∙ so.laid i l)
-              (get_or-set_same m n line lines.none inside ∙ says);
+          laid = pushed ∙ rw (add-one n, tab_more lines.says n, so.laid, says);
         }
 
-    -- The whole array, where the loop ends.
-    module _ (rest : List L) where
-      pub stopped :
-          (line : L) (why : Refusal)
-          → n < lines.count
-          → lines.is_formed n ≡ false
-          → why ≡ MalformedLine (lines.number + n)
-          → LinesRead lines (set m n line ++ rest) (Err why)
-      stopped line why l f e =
-          let at : formed_lines lines ≡ n = first_fails lines.is_formed lines.count n l so.formed_all f in
-          record {
-            told = (omega (arith, at), e ∙ ap (λ k. MalformedLine (lines.number + k)) (sym at));
-            laid =
-                λ i g.
-                get_or-append (set m n line) rest lines.none i (omega (arith, at, so.long, length-set m n line))
-                ∙ get_or-set_other m n i line lines.none (λ q. omega (arith, at))
-                ∙ so.laid i (omega (arith, at));
-          }
+    pub stopped :
+        (why : Refusal) → n < lines.count → lines.is_formed n ≡ false → why ≡ MalformedLine (lines.number + n) → LinesRead lines m (Err why)
+    stopped why l f e =
+        let at : formed_lines lines ≡ n = first_fails lines.is_formed lines.count n l so.formed_all f in
+        record {
+          told = (omega (arith, at), e ∙ ap (λ k. MalformedLine (lines.number + k)) (sym at));
+          laid = so.laid ∙ ap (tab lines.says) (sym at);
+        }
 
-      pub all_read : n ≡ lines.count → LinesRead lines (m ++ rest) (Ok kept)
-      all_read e =
-          let at : formed_lines lines ≡ lines.count = first_none_fails lines.is_formed lines.count (λ i l. so.formed_all i (omega arith)) in
-          record {
-            told = (at, so.kept_is ∙ ap lines.kept_after e);
-            laid = λ i g. get_or-append m rest lines.none i (omega (arith, at, so.long)) ∙ so.laid i (omega (arith, at));
-          }
+    pub all_read : n ≡ lines.count → LinesRead lines m (Ok kept)
+    all_read e =
+        let at : formed_lines lines ≡ lines.count = first_none_fails lines.is_formed lines.count (λ i l. so.formed_all i (omega arith)) in
+        record {
+          told = (at, so.kept_is ∙ ap lines.kept_after e);
+          laid = so.laid ∙ ap (tab lines.says) (e ∙ sym at);
+        }
 
 -- How many of the lines so far are right before the first that is not, with one line more.
 pub right_none : (is_right : ℕ → Bool) → 0 ≡ right_lines is_right 0

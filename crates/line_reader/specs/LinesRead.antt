@@ -1,7 +1,8 @@
 -- What the loops over the lines of a text promise: the first line that is malformed or what their questions are answered from, and that the lent
--- array holds what the lines before it say. Assumes nothing.
-use Rattle.std.specs.Prelude.{ℕ, ◌+◌, ◌%◌, ◌<◌, ◌≡◌, Bool, not, List, get_or, Result, Ok, Err}
+-- vector holds what the lines before it say. Assumes nothing.
+use Rattle.std.specs.Prelude.{ℕ, ◌+◌, ◌%◌, ◌<◌, ◌≡◌, Bool, not, List, Result, Ok, Err}
 use Rattle.law.specs.Bounded.{first}
+use Rattle.law.specs.Lists.{tab}
 use Rattle.text.specs.Field.{Text, formed as formed_at}
 use Rattle.job.specs.Layout as layout
 use Rattle.job.specs.Formula as formula
@@ -10,7 +11,6 @@ use Rattle.job.specs.declared.reading.Header.{Header}
 use Rattle.job.specs.declared.refusal.Refusal.{Refusal}
 use Rattle.job.specs.declared.refusal.Refusal.TheVariants.{MalformedLine}
 use Rattle.job.specs.declared.subformula.Subformula.{Subformula}
-use Rattle.job.specs.declared.subformula.Subformula.TheVariants.{Atom}
 use Rattle.edge_pass.specs.EdgePass.{kept_after}
 use Rattle.edge_pass.specs.declared.Kept.{Kept}
 use Rattle.image.specs.declared.job_lines.State.{State}
@@ -24,8 +24,6 @@ pub record Lines (L K : Type 0) : Type 0 where
   -- whether a line is well-formed, and what it says
   pub is_formed : ℕ → Bool
   pub says : ℕ → L
-  -- what is read past the end of an array
-  pub none : L
   -- what is kept after the first lines
   pub kept_after : ℕ → K
 
@@ -39,13 +37,10 @@ module _ {L K : Type 0} (lines : Lines L K) where
   Told (Ok kept) = (formed_lines ≡ lines.count) × (kept ≡ lines.kept_after lines.count)
   Told (Err why) = (formed_lines < lines.count) × (why ≡ MalformedLine (lines.number + formed_lines))
 
-  -- The array holds what the first n lines say.
-  abbrev pub Laid : ℕ → List L → Type 0
-  Laid n m = (i : ℕ) → i < n → get_or m i lines.none ≡ lines.says i
-
+  -- What the lines say is laid, as far as every one is well-formed.
   pub record LinesRead (m : List L) (r : Result K Refusal) : Type 0 where
     pub told : Told r
-    pub laid : Laid formed_lines m
+    pub laid : m ≡ tab lines.says formed_lines
 
 -- How many of the first n lines are right before the first that is not.
 abbrev pub right_lines : (ℕ → Bool) → ℕ → ℕ
@@ -59,7 +54,6 @@ lines_of_states t h =
       number = 2;
       is_formed = λ s. formed_at t (layout.state_at s) 2;
       says = λ s. record { owner = layout.owner_field t s % 256; label = layout.label_field t s % 65536 };
-      none = record { owner = 0; label = 0 };
       kept_after = right_lines (state_ok t);
     }
 
@@ -70,7 +64,6 @@ lines_of_edges t h =
       number = 2 + h.states;
       is_formed = λ e. formed_at t (layout.edge_at t e) 2;
       says = λ e. record { source = layout.source_field t e % 256; target = layout.target_field t e % 256 };
-      none = record { source = 0; target = 0 };
       kept_after = kept_after t;
     }
 
@@ -81,6 +74,5 @@ lines_of_subformulas t h =
       number = 2 + (h.states + h.edges);
       is_formed = λ k. formed_at t (layout.subformula_at t k) 3;
       says = λ k. formula.formula (formula.parsed k (layout.kind_field t k) (layout.left_field t k) (layout.right_field t k));
-      none = Atom 0;
       kept_after = right_lines (formula_ok t);
     }

@@ -2,6 +2,7 @@
 ghost use Rattle.job.specs.Leaves.{Fits};
 ghost use Rattle.line_reader.specs.LinesRead.{lines_of_edges, LinesRead};
 
+use arrayvec::ArrayVec;
 use edge_pass::Kept;
 use image::job_lines::Edge;
 use job::reading::Header;
@@ -9,20 +10,22 @@ use job::refusal::Refusal;
 use text::fields::read_line;
 
 // What the pass keeps after the last edge line, where every one is well-formed.
-pub fn read_edges(text: &[u8], h: Header, edges: &mut [Edge; 2048]) -> Result<Kept, Refusal>
+#[inline(always)]
+pub fn read_edges(text: &[u8], h: Header, edges: &mut ArrayVec<Edge, 2048>) -> Result<Kept, Refusal>
     requires { Fits text.now h }
-    ensures { LinesRead (lines_of_edges text.now h) edges.new result }
+    ensures { LinesRead (lines_of_edges text.now h) edges.new.items result }
 {
+    edges.clear();
     let mut kept = Kept::start(h.states);
-    for (e, edge) in edges[..h.edges].iter_mut().enumerate() {
+    for e in 0..h.edges {
         let line = h.states + e;
         let malformed = Refusal::MalformedLine(2 + line);
         let [source, target] = read_line::<2>(text, 21 + 11 * line).ok_or(malformed)?;
         // question 6 refuses a number that is too large for its field
-        *edge = Edge {
+        edges.push(Edge {
             source: (source % 256) as u8,
             target: (target % 256) as u8,
-        };
+        });
         kept.after(source, target);
     }
     Ok(kept)

@@ -2,6 +2,7 @@
 ghost use Rattle.job.specs.Leaves.{Fits};
 ghost use Rattle.line_reader.specs.LinesRead.{lines_of_subformulas, LinesRead};
 
+use arrayvec::ArrayVec;
 use job::reading::Header;
 use job::refusal::Refusal;
 use job::subformula::{Subformula, parse};
@@ -9,25 +10,27 @@ use layout::lines::right_after;
 use text::fields::read_line;
 
 // How many subformula lines are right before the first that is not, where every one is well-formed.
+#[inline(always)]
 pub fn read_formulas(
     text: &[u8],
     h: Header,
-    formula: &mut [Subformula; 32],
+    formula: &mut ArrayVec<Subformula, 32>,
 ) -> Result<usize, Refusal>
     requires { Fits text.now h }
-    ensures { LinesRead (lines_of_subformulas text.now h) formula.new result }
+    ensures { LinesRead (lines_of_subformulas text.now h) formula.new.items result }
 {
+    formula.clear();
     let lines = h.states + h.edges;
     let start = 21 + 11 * lines;
     let number = 2 + lines;
     let mut right = 0;
-    for (k, subformula) in formula[..h.subformulas].iter_mut().enumerate() {
+    for k in 0..h.subformulas {
         let malformed = Refusal::MalformedLine(number + k);
         let [kind, a, b] = read_line::<3>(text, start + 16 * k).ok_or(malformed)?;
         let parsed = parse(k, kind, a, b);
         right = right_after(right, k, parsed.is_some());
         // question 8 refuses a line that says no subformula
-        *subformula = parsed.unwrap_or(Subformula::Atom(0));
+        formula.push(parsed.unwrap_or(Subformula::Atom(0)));
     }
     Ok(right)
 }

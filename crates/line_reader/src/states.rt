@@ -3,6 +3,7 @@ ghost use Rattle.std.specs.Prelude.{◌≡◌, ◌&&◌, ltb, leb};
 ghost use Rattle.job.specs.Leaves.{Fits};
 ghost use Rattle.line_reader.specs.LinesRead.{lines_of_states, LinesRead};
 
+use arrayvec::ArrayVec;
 use image::job_lines::State;
 use job::reading::Header;
 use job::refusal::Refusal;
@@ -16,19 +17,25 @@ fn is_state(nodes: usize, owner: usize, label: usize) -> bool
 }
 
 // How many state lines are right before the first that is not, where every one is well-formed.
-pub fn read_states(text: &[u8], h: Header, states: &mut [State; 256]) -> Result<usize, Refusal>
+#[inline(always)]
+pub fn read_states(
+    text: &[u8],
+    h: Header,
+    states: &mut ArrayVec<State, 256>,
+) -> Result<usize, Refusal>
     requires { Fits text.now h }
-    ensures { LinesRead (lines_of_states text.now h) states.new result }
+    ensures { LinesRead (lines_of_states text.now h) states.new.items result }
 {
+    states.clear();
     let mut right = 0;
-    for (s, state) in states[..h.states].iter_mut().enumerate() {
+    for s in 0..h.states {
         let malformed = Refusal::MalformedLine(2 + s);
         let [owner, label] = read_line::<2>(text, 21 + 11 * s).ok_or(malformed)?;
         // question 5 refuses a number that is too large for its field
-        *state = State {
+        states.push(State {
             owner: (owner % 256) as u8,
             label: (label % 65536) as u16,
-        };
+        });
         right = right_after(right, s, is_state(h.nodes, owner, label));
     }
     Ok(right)

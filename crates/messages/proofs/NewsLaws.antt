@@ -31,7 +31,7 @@ use Rattle.image.proofs.Places.{same_place, place_border}
 use Rattle.pending.specs.declared.Pending.{Pending}
 use Rattle.table.specs.Lent.{Lent, IsCell}
 use Rattle.table.specs.Filling.{Leaves, Cells, part, of_column, of_subformula, up_to_node}
-use Rattle.table.proofs.Parts.{both_two, part_same, part_all, leaves_idle, leaves_none, leaves_is, leaves_more, leaves_long, leaves_lent, leaves_others, leaves_nothing, told_small}
+use Rattle.table.proofs.Parts.{both_two, part_same, part_all, leaves_idle, leaves_none, leaves_is, leaves_more, leaves_long, leaves_others, leaves_nothing, told_small}
 use Rattle.table.proofs.FillingLaws.{ltb_zero, ltb_more, column_apart, nodes_more, nodes_over}
 use Rattle.messages.specs.News.{copied, PartCopied, NewsTaken, NewsCopied}
 
@@ -119,12 +119,9 @@ module _ (J : Job) (n k : ℕ) (t : Table) (stale : List Bool) (u : Table) (told
   pub copied_marked : {stale' : List Bool} → FlagIs (column_flag n k) true stale stale' → PartCopied J (of_column n k) t stale u stale' told
   copied_marked {stale'} marked = column_copied stale' (mark_set t (column_flag n k) stale u stale' marked)
 
--- What stays while cells are copied.
+-- How many cells are copied at most.
 module _ (m : Image) (t : Table) (lent : Lent m t) (keep : Cells) (stale : List Bool) (u : Table) (stale' : List Bool) (c : ℕ)
     (so : PartCopied (job_of m) keep t stale u stale' c) where
-  pub copied_lent : Lent m u
-  copied_lent = leaves_lent m t lent keep (copied (job_of m) t) u c so.leaves
-
   pub copied_few : c ≤ 65536
   copied_few = told_small m t lent (part (job_of m) keep (copied (job_of m) t) t) u c so.leaves
 

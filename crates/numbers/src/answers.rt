@@ -11,7 +11,8 @@ use job::reading::Header;
 use job::refusal::Refusal;
 use rounds::finish::Outcome;
 
-// What a call answers of its own where it is accepted, as so many numbers.
+// What a call answers of its own where it is accepted, as so many numbers. A trait of its own and no `Into<[usize; N]>`, whose contract says nothing of
+// which numbers these are.
 pub trait Own<const N: usize> {
     ghost own: { Self → List ℕ };
 
@@ -82,6 +83,6 @@ pub fn numbers_of<T: Own<N>, const N: usize>(answer: Result<T, Refusal>) -> ([us
 {
     match answer {
         Ok(own) => ([0, 0], own.own_numbers()),
-        Err(why) => ([usize::from(why.number()), why.line()], [0; N]),
+        Err(why) => (why.numbers(), [0; N]),
     }
 }

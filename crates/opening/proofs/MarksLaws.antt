@@ -1,5 +1,6 @@
--- Questions 25 and 26 from searches for a mark above 1 and for one above 0; and an opening state that says no, by the code's tests. Assumes nothing.
-use Prim.Native.Nat.{ℕ, zero, suc, ◌-◌, ◌<◌, ◌≤◌}
+-- Questions 25 and 26 from searches for a mark above 1 and for one above 0; and yes where a search for an opening state that says no finds none.
+-- Assumes nothing.
+use Prim.Native.Nat.{ℕ, zero, suc, ◌<◌, ◌≤◌}
 use mathlib.Core.Path.{◌≡◌, refl, sym, ◌∙◌}
 use mathlib.Core.Bool.{Bool, true, false, not}
 use mathlib.Core.List.{List, [], ◌∷◌}
@@ -12,11 +13,11 @@ use lib.Dec.{eqb, ltb, leb}
 use Rattle.law.specs.Bounded.{first, all, any}
 use Rattle.law.proofs.Bool.{split, and_no_left, not_is_true, not_is_false}
 use Rattle.law.proofs.Bounded.{any_found, any_no, any_same, all_intro, all_fails}
-use Rattle.job.specs.Job.{Job, size, subformula_count}
+use Rattle.job.specs.Job.{Job, size}
 use Rattle.job.specs.Question.{Question, of_call, refusal, no_number}
 use Rattle.job.proofs.QuestionLaws.{no_number_yes, no_number_no}
-use Rattle.cells.specs.Table.{Table, owner_cell}
-use Rattle.cells.specs.Opening.{opens, are_marks, some_opening, whole_cell, says_no, yes, lowest_no}
+use Rattle.cells.specs.Table.{Table}
+use Rattle.cells.specs.Opening.{opens, are_marks, some_opening, whole_cell, yes, lowest_no}
 use Rattle.cells.specs.Questions.{marks_right, some_marked}
 use Rattle.cells.proofs.OpeningLaws.{marks_long, marks_low, none_yes, found_no}
 
@@ -80,18 +81,6 @@ module _ (J : Job) (marks : List ℕ) where
     pub some_marked_lem : any (above 0) (length marks) ≡ true → 0 ≡ no_number asked
     unfolding some_marked of_call no_number refusal Option-elim
     some_marked_lem e = sym (behind_marks ∙ no_number_yes (some_marked marks) [] (sym opens_above ∙ e))
-
--- An opening state that says no, by its mark and by the cell that is read.
-module _ (J : Job) (marks : List ℕ) (t : Table) (s : ℕ) where
-  pub not_opening : (get_or marks s 0 ≡ 1 → ⊥) → eqb (get_or marks s 0) 1 ≡ says_no J marks t s
-  unfolding says_no opens
-  not_opening other =
-      let no = ne_eqb (get_or marks s 0) 1 other in no ∙ sym (and_no_left (opens marks s) (eqb (whole_cell J t s) 0) no)
-
-  pub opening_cell :
-      get_or marks s 0 ≡ 1 → (c k : ℕ) → k ≡ subformula_count J → c ≡ owner_cell J t s (k - 1) → eqb c 0 ≡ says_no J marks t s
-  unfolding says_no opens whole_cell
-  opening_cell marked c k all read = simp (eq-eqb (get_or marks s 0) 1 marked, read, all)
 
 -- The state that a search for one that says no finds, where every owner's cell of the whole formula is filled: none is yes.
 module _ (J : Job) (marks : List ℕ) (t : Table) (filled : (s : ℕ) → s < size J → whole_cell J t s ≤ 1) where

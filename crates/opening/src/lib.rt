@@ -1,4 +1,4 @@
-// Opening states: questions 25 and 26, put to the marks that finish takes, and what it answers of a complete table at the states that they mark.
+// Opening states: questions 25 and 26, put to marks, and what is to be answered of a complete table at the states that they mark. No call takes marks yet.
 #![tactic(auto)]
 
 ghost use Rattle.std.specs.Prelude.{◌<◌, ◌≡◌, [], ◌∷◌, cond, is_none, unwrap_or, IfSome, IfErr, length, get_or, ltb};
@@ -24,6 +24,7 @@ fn some_above(marks: &[u8], v: u8) -> bool
 }
 
 // Question 25: whether there is a byte for each state, 0 or 1.
+#[tactic(auto, using(crate::proofs::MarksLaws::same_length, crate::proofs::MarksLaws::other_length))]
 fn are_marks(m: &Image, marks: &[u8]) -> bool
     ensures { result ≡ are_marks (job_of m.now) marks.now }
 {
@@ -31,6 +32,7 @@ fn are_marks(m: &Image, marks: &[u8]) -> bool
 }
 
 // Questions 25 and 26. Behind 25 a mark above 0 is 1.
+#[tactic(auto, using(crate::proofs::MarksLaws::no_marks, crate::proofs::MarksLaws::none_marked, crate::proofs::MarksLaws::some_marked_lem))]
 pub fn ask_marks(m: &Image, marks: &[u8]) -> Result<(), Refusal>
     ensures first_no { no_of result ≡ no_number (marks_right (job_of m.now) marks.now ∷ some_marked marks.now ∷ []) }
     ensures no_line { IfErr result (λ why. line_of_refusal why ≡ 0) }
@@ -45,6 +47,7 @@ pub fn ask_marks(m: &Image, marks: &[u8]) -> Result<(), Refusal>
 }
 
 // Whether s is an opening state at which the owner's cell of the whole formula is 0.
+#[tactic(auto, unfolding(cells::specs::Opening::says_no, cells::specs::Opening::opens, cells::specs::Opening::whole_cell))]
 fn says_no(m: &Image, table: &[u8], marks: &[u8], s: usize) -> bool
     requires lent { Lent m.now table.now }
     requires marks_len { (length marks.now ≡ size (job_of m.now)) × (s < size (job_of m.now)) }
@@ -53,7 +56,7 @@ fn says_no(m: &Image, table: &[u8], marks: &[u8], s: usize) -> bool
     marks[s] == 1 && owner_cell(m, table, s, m.subformulas() - 1) == 0
 }
 
-// What finish answers at the opening states: the lowest that says no, and none for yes. Where the cells are all filled, it is yes exactly where no
+// What is answered at the opening states: the lowest that says no, and none for yes. Where the cells are all filled, it is yes exactly where no
 // state says no.
 pub fn verdict_at(m: &Image, table: &[u8], marks: &[u8]) -> Option<usize>
     requires lent { Lent m.now table.now }

@@ -24,7 +24,7 @@ fn node_named(argument: &[u8]) -> usize
     }
 }
 
-// How many bytes the page for a text has, if the text is accepted: 80 for each state that line 1 has, and 80 more.
+// How many bytes the page for a text has, 80 for each state that line 1 has and 80 more, and 0 where line 1 is refused, since nothing is printed of it then.
 fn page_size(text: &[u8]) -> usize
     ensures { PageSize text.now result }
 {
@@ -45,7 +45,7 @@ pub fn page_output(argument: &[u8], text: &[u8]) -> Output<20560>
     match page(text, &cells[..size], node_named(argument), &mut bytes) {
         Ok(()) => Output::new(bytes, page_size(text)),
         Err(why) => {
-            write_line(&mut bytes, 0, &[usize::from(why.number()), why.line()]);
+            write_line(&mut bytes, 0, &why.numbers());
             Output::new(bytes, 11)
         }
     }

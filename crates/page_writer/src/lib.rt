@@ -1,6 +1,7 @@
 // One node's table written as a page into a lent buffer: the heading, and a line for each state. Each function writes its part of the page at its
 // place and leaves every other byte. A line takes 80 bytes, so that of state s begins at 80 * s + 80: five columns for the state, five for its owner,
-// five for its label, then from 80 * s + 95 on two for each subformula, spaces up to column 79, and byte 10.
+// five for its label, then from 80 * s + 95 on two for each subformula, spaces up to column 79, and byte 10. The buffer and a place are passed, and no
+// writer that counts on: what stands before and behind a part is said by its place.
 #![tactic(auto)]
 
 ghost use Rattle.std.specs.Prelude.{◌≡◌, [], ◌∷◌, ◌++◌, suc, ◌+◌, ◌-◌, ◌*◌, ◌<◌, ◌≤◌, length, replicate};
@@ -96,12 +97,12 @@ fn write_row(m: &Image, table: &[u8], n: usize, s: usize, out: &mut [u8])
 {
     write_field(out, 80 * s + 80, s);
     write_field(out, 80 * s + 85, m.owner(s));
-    write_field(out, 80 * s + 90, m.label(s) as usize);
+    write_field(out, 80 * s + 90, usize::from(m.label(s)));
     write_cells(m, table, n, s, out);
     end_line(out, 80 * s + 80, 15 + 2 * m.subformulas());
 }
 
-// All lines, one behind the other.
+// All lines, one behind the other. The buffer's bound is this function's alone.
 pub fn write_page(m: &Image, table: &[u8], n: usize, out: &mut [u8])
     requires ready { Ready m.now table.now }
     requires n_bound { (n < (job_of m.now).nodes) × (80 * (size (job_of m.now) + 1) ≤ length out.old) }

@@ -8,7 +8,7 @@ use std::mem;
 
 // The columns, cells of one node and one subformula, of which a cell was filled since their node was last stepped, 32 for each node, and the
 // subformulas of which a cell was filled since the last copying. (Tried as rows, `[[bool; 32]; 8]`: the check does not tell how long a row is, so the
-// type would take an invariant, and a flat view for `FlagIs` and `FlagsAre`, to save three `n * 32 + k`.)
+// type would take an invariant, and a flat view for `FlagIs` and `FlagsAre`, to save three `n * 32 + k`.) What a method asks of n and k is that they are in.
 #[derive(Drop)]
 pub struct Pending {
     pub stale: [bool; 256],
@@ -32,7 +32,8 @@ impl Pending {
         requires { (n < 8) × (k < 32) }
         ensures { result ≡ is_stale self.now.stale n k }
     {
-        self.stale[n * 32 + k]
+        let column = n * 32 + k;
+        self.stale[column]
     }
 
     // Cells of column k of node n were filled.

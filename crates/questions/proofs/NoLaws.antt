@@ -1,4 +1,4 @@
--- Questions asked one after the other, for every call: what a no and what a yes leaves to ask, and the answers in the numbers that code has.
+-- The number of the first no to the own questions of each call: by its tests, in their order; and the tests in the values that code has.
 -- Assumes nothing.
 use Prim.Native.Nat.{ℕ, ◌+◌, ◌*◌, ◌<◌}
 use mathlib.Core.Path.{◌≡◌, refl, sym, ◌∙◌, ap, ap₂}
@@ -6,7 +6,7 @@ use mathlib.Core.Bool.{Bool, true, false, cond, not, ◌&&◌, ◌||◌}
 use mathlib.Core.List.{List, [], ◌∷◌, ◌++◌}
 use Rattle.std.proofs.Common.{Option, Some, None, IfSome, is_some, unwrap_or}
 use native.Mathlib.Omega.{arith}
-use borrow.Author.Tests.{eq-eqb, ne_eqb, eqb-true, lt-ltb, le-ltb, ltb-true}
+use borrow.Author.Tests.{eq-eqb, eqb-true, lt-ltb, le-ltb, ltb-true}
 use lib.ListN.{length}
 use lib.Dec.{eqb, ltb, leb}
 use Rattle.law.specs.Lists.{every}
@@ -14,6 +14,9 @@ use Rattle.law.proofs.Bool.{split, cond_true, cond_false, not_not}
 use Rattle.law.proofs.Bounded.{by_equal}
 use Rattle.job.specs.Job.{Job, size, subformula_count}
 use mathlib.Core.Option.{Option-elim}
+use Rattle.job.proofs.RefusedLaws.{numbered}
+use Rattle.cells.proofs.CallLaws.{read_below}
+use Rattle.image.proofs.ImageLaws.{image_job}
 use Rattle.job.specs.Question.{Question, is_own, of_call, refusal, no_number}
 use Rattle.job.proofs.QuestionLaws.{no_number_yes, no_number_no, no_number_first, no_number_later}
 use Rattle.cells.specs.Fragment.{in_fragment, border}
@@ -46,33 +49,62 @@ unfolding table_length
 length_is J n s k a b c = ap₂ ◌*◌ (ap₂ ◌*◌ a b) c
 
 module _ (J : Job) (t : Table) where
-  pub size_yes : length t ≡ table_length J → (table_size J t).test ≡ true
-  unfolding table_size of_call
-  size_yes = eq-eqb (length t) (table_length J)
-
-  -- a no to one of them is the first no of every list that begins with them
-  pub table_first :
-      (qs : List Question) (r : ℕ)
-      → r ≡ no_number (own_questions Call.finish J t)
-      → (r ≡ 0 → ⊥)
-      → r ≡ no_number (table_size J t ∷ (table_cells J t ∷ qs))
-  unfolding own_questions
-  table_first qs r asked some =
-      asked ∙ sym (no_number_first (table_size J t ∷ (table_cells J t ∷ [])) qs (λ none. some (asked ∙ none)))
-
-  pub node_first :
-      (n : ℕ) (qs : List Question) (r : ℕ)
-      → r ≡ no_number (own_questions (Call.step n) J t)
-      → (r ≡ 0 → ⊥)
-      → r ≡ no_number (table_size J t ∷ (table_cells J t ∷ (node_below J n ∷ qs)))
-  unfolding own_questions
-  node_first n qs r asked some =
-      asked ∙ sym (no_number_first (table_size J t ∷ (table_cells J t ∷ (node_below J n ∷ []))) qs (λ none. some (asked ∙ none)))
-
   pub table_number :
       no_number (own_questions Call.finish J t) ≡ cond (eqb (length t) (table_length J)) (cond (cells_right J t) 0 10) 9
   unfolding own_questions table_size table_cells of_call
   table_number = simp (no_number_cond, no_number_none)
+
+  pub step_asked :
+      (n : ℕ)
+      → no_number (own_questions (Call.step n) J t)
+      ≡ cond (eqb (length t) (table_length J)) (cond (cells_right J t) (cond (ltb n J.nodes) 0 11) 10) 9
+  unfolding own_questions table_size table_cells node_below of_call
+  step_asked n = simp (no_number_cond, no_number_none)
+
+  pub offer_asked :
+      (s k : ℕ)
+      → no_number (own_questions (Call.offer s k) J t)
+      ≡ cond (eqb (length t) (table_length J))
+      (cond (cells_right J t)
+      (cond (ltb s (size J) && ltb k (subformula_count J))
+      (cond (is_temporal J k) (cond (not (is_empty (owner_cell J t s k))) 0 14) 13) 12) 10) 9
+  unfolding own_questions table_size table_cells numbers_below temporal_named owner_filled of_call
+  offer_asked s k = simp (no_number_cond, no_number_none)
+
+  pub accept_asked :
+      (n s k v : ℕ)
+      → no_number (own_questions (Call.accept n s k v) J t)
+      ≡ cond (eqb (length t) (table_length J))
+      (cond (cells_right J t)
+      (cond (ltb n J.nodes)
+      (cond (ltb s (size J) && ltb k (subformula_count J))
+      (cond (is_temporal J k)
+      (cond (leb v 1) (cond (border J n s) (cond (is_empty (cell J t n s k) || eqb (cell J t n s k) v) 0 17) 16) 15) 13) 12) 11) 10) 9
+  unfolding own_questions table_size table_cells node_below numbers_below temporal_named truth_value state_at_border cell_agrees of_call
+  accept_asked n s k v = simp (no_number_cond, no_number_none)
+
+  pub look_asked :
+      (n s k : ℕ)
+      → no_number (own_questions (Call.look n s k) J t)
+      ≡ cond (eqb (length t) (table_length J))
+      (cond (cells_right J t)
+      (cond (ltb n J.nodes || eqb n 255) (cond (ltb s (size J) && ltb k (subformula_count J)) (cond (in_fragment J (node_read J n s) s) 0 18) 12) 11) 10) 9
+  unfolding own_questions table_size table_cells node_or255 numbers_below state_in_fragment of_call
+  look_asked n s k = simp (no_number_cond, no_number_none)
+
+  pub close_asked :
+      no_number (own_questions Call.close J t)
+      ≡ cond (eqb (length t) (table_length J)) (cond (cells_right J t) (cond (settled J t) (cond (some_open J t) 0 20) 19) 10) 9
+  unfolding own_questions table_size table_cells table_settled some_owner_empty of_call
+  close_asked = simp (no_number_cond, no_number_none)
+
+  pub page_asked :
+      (n room : ℕ)
+      → no_number (own_questions (Call.page n room) J t)
+      ≡ cond (eqb (length t) (table_length J))
+      (cond (cells_right J t) (cond (ltb n J.nodes) (cond (leb (80 * (size J + 1)) room) 0 24) 11) 10) 9
+  unfolding own_questions table_size table_cells node_below page_fits of_call
+  page_asked n room = simp (no_number_cond, no_number_none)
 
   -- none is the first no: both are answered yes
   front_own : every is_own (table_size J t ∷ (table_cells J t ∷ [])) ≡ true
@@ -94,7 +126,7 @@ module _ (J : Job) (t : Table) where
             absurd (omega arith)),
       )
 
-  pub node_fine :
+  node_fine :
       (n r : ℕ)
       → r ≡ no_number (own_questions (Call.step n) J t)
       → r ≡ 0
@@ -115,12 +147,6 @@ module _ (J : Job) (t : Table) where
             absurd (omega arith))),
       )
 
--- Question 11.
-module _ (J : Job) (n : ℕ) where
-  pub node_yes : n < J.nodes → (node_below J n).test ≡ true
-  unfolding node_below of_call
-  node_yes = lt-ltb n J.nodes
-
 -- What stands after them: a table that can be worked on.
 pub table_ready : (m : Image) (t : Table) → (r : ℕ) → r ≡ no_number (own_questions Call.finish (job_of m) t) → r ≡ 0 → Ready m t
 table_ready m t r asked none =
@@ -137,72 +163,21 @@ node_ready m t n r asked none =
     let (fine, under) = node_fine (job_of m) t n r asked none in
     (table_ready m t 0 fine refl, under)
 
-module _ {m : Image} {t : Table} (ready : Ready m t) where
-  pub ready_size : (table_size (job_of m) t).test ≡ true
-  ready_size = size_yes (job_of m) t ready.lent.long
+-- What accept has left to ask then.
+pub accept_number :
+    {m : Image} {t : Table} (ready : Ready m t)
+    → (n s k v : ℕ)
+    → n < (job_of m).nodes
+    → no_number (own_questions (Call.accept n s k v) (job_of m) t)
+    ≡ cond (ltb s (size (job_of m)) && ltb k (subformula_count (job_of m)))
+    (cond (is_temporal (job_of m) k)
+    (cond (leb v 1)
+    (cond (border (job_of m) n s)
+    (cond (is_empty (cell (job_of m) t n s k) || eqb (cell (job_of m) t n s k) v) 0 17) 16) 15) 13) 12
+accept_number {m} {t} ready n s k v under =
+    accept_asked (job_of m) t n s k v ∙ simp (eq-eqb (length t) (table_length (job_of m)) ready.lent.long, ready.right, lt-ltb n (job_of m).nodes under)
 
-  pub ready_cells : (table_cells (job_of m) t).test ≡ true
-  unfolding table_cells of_call
-  ready_cells = ready.right
-
-  pub behind_table : (qs : List Question) → no_number (table_size (job_of m) t ∷ (table_cells (job_of m) t ∷ qs)) ≡ no_number qs
-  behind_table qs =
-      no_number_yes (table_size (job_of m) t) (table_cells (job_of m) t ∷ qs) ready_size
-      ∙ no_number_yes (table_cells (job_of m) t) qs ready_cells
-
-  pub behind_node :
-      (n : ℕ)
-      → n < (job_of m).nodes
-      → (qs : List Question)
-      → no_number (table_size (job_of m) t ∷ (table_cells (job_of m) t ∷ (node_below (job_of m) n ∷ qs))) ≡ no_number qs
-  behind_node n under qs =
-      behind_table (node_below (job_of m) n ∷ qs) ∙ no_number_yes (node_below (job_of m) n) qs (node_yes (job_of m) n under)
-
-  -- What is left to ask of each call.
-  pub step_number : (n : ℕ) → no_number (own_questions (Call.step n) (job_of m) t) ≡ cond (ltb n (job_of m).nodes) 0 11
-  unfolding own_questions node_below of_call
-  step_number n = behind_table _ ∙ simp (no_number_cond, no_number_none)
-
-  pub offer_number :
-      (s k : ℕ)
-      → no_number (own_questions (Call.offer s k) (job_of m) t)
-      ≡ cond (ltb s (size (job_of m)) && ltb k (subformula_count (job_of m)))
-      (cond (is_temporal (job_of m) k) (cond (not (is_empty (owner_cell (job_of m) t s k))) 0 14) 13) 12
-  unfolding own_questions numbers_below temporal_named owner_filled of_call
-  offer_number s k = behind_table _ ∙ simp (no_number_cond, no_number_none)
-
-  pub accept_number :
-      (n s k v : ℕ)
-      → n < (job_of m).nodes
-      → no_number (own_questions (Call.accept n s k v) (job_of m) t)
-      ≡ cond (ltb s (size (job_of m)) && ltb k (subformula_count (job_of m)))
-      (cond (is_temporal (job_of m) k)
-      (cond (leb v 1)
-      (cond (border (job_of m) n s)
-      (cond (is_empty (cell (job_of m) t n s k) || eqb (cell (job_of m) t n s k) v) 0 17) 16) 15) 13) 12
-  unfolding own_questions numbers_below temporal_named truth_value state_at_border cell_agrees of_call
-  accept_number n s k v under = behind_node n under _ ∙ simp (no_number_cond, no_number_none)
-
-  pub look_number :
-      (n s k : ℕ)
-      → no_number (own_questions (Call.look n s k) (job_of m) t)
-      ≡ cond (ltb n (job_of m).nodes || eqb n 255)
-      (cond (ltb s (size (job_of m)) && ltb k (subformula_count (job_of m))) (cond (in_fragment (job_of m) (node_read (job_of m) n s) s) 0 18) 12) 11
-  unfolding own_questions node_or255 numbers_below state_in_fragment of_call
-  look_number n s k = behind_table _ ∙ simp (no_number_cond, no_number_none)
-
-  pub close_number : no_number (own_questions Call.close (job_of m) t) ≡ cond (settled (job_of m) t) (cond (some_open (job_of m) t) 0 20) 19
-  unfolding own_questions table_settled some_owner_empty of_call
-  close_number = behind_table _ ∙ simp (no_number_cond, no_number_none)
-
-  pub page_number :
-      (n room : ℕ)
-      → n < (job_of m).nodes
-      → no_number (own_questions (Call.page n room) (job_of m) t) ≡ cond (leb (80 * (size (job_of m) + 1)) room) 0 24
-  unfolding own_questions page_fits of_call
-  page_number n room under = behind_node n under _ ∙ simp (no_number_cond, no_number_none)
-
--- Questions 12 and 13: a no to one of them, and a yes to both, before whatever else is asked.
+-- Questions 12 and 13: a no to one of them, whatever is asked behind them.
 pub named_number :
     (J : Job) (s k : ℕ)
     → no_number (numbers_below J s k ∷ (temporal_named J k ∷ []))
@@ -215,18 +190,10 @@ two_no true true x r is some = absurd (some is)
 two_no true false x r is some = is
 two_no false b x r is some = is
 
-two_yes : (a b : Bool) (r : ℕ) → r ≡ cond a (cond b 0 13) 12 → r ≡ 0 → (a ≡ true) × (b ≡ true)
-two_yes true true r is none = (refl, refl)
-two_yes true false r is none = absurd (let never : ◌≡◌ {A = ℕ} 13 0 = sym is ∙ none in omega arith)
-two_yes false b r is none = absurd (let never : ◌≡◌ {A = ℕ} 12 0 = sym is ∙ none in omega arith)
-
 module _ (J : Job) (s k r : ℕ) (asked : r ≡ no_number (numbers_below J s k ∷ (temporal_named J k ∷ []))) where
   pub named_no :
       (x : ℕ) → (r ≡ 0 → ⊥) → r ≡ cond (ltb s (size J) && ltb k (subformula_count J)) (cond (is_temporal J k) x 13) 12
   named_no x some = two_no (ltb s (size J) && ltb k (subformula_count J)) (is_temporal J k) x r (asked ∙ named_number J s k) some
-
-  pub named_yes : r ≡ 0 → ((ltb s (size J) && ltb k (subformula_count J)) ≡ true) × (is_temporal J k ≡ true)
-  named_yes none = two_yes (ltb s (size J) && ltb k (subformula_count J)) (is_temporal J k) r (asked ∙ named_number J s k) none
 
 -- Questions 16 and 18, in the place that is read.
 module _ (J : Job) (n s : ℕ) (p : Place) (is : p ≡ place_of J n s) where
@@ -235,16 +202,6 @@ module _ (J : Job) (n s : ℕ) (p : Place) (is : p ≡ place_of J n s) where
 
   pub fragment_asked : (b : Bool) → b ≡ same_place p Outside → in_fragment J n s ≡ not b
   fragment_asked b told = sym (not_not (in_fragment J n s)) ∙ ap not (sym (place_outside J n s p is) ∙ sym told)
-
--- Question 14, in the cell that is read.
-module _ (cell r : ℕ) (is : r ≡ cell) where
-  pub empty_no : r ≡ 2 → not (is_empty cell) ≡ false
-  unfolding is_empty
-  empty_no e = simp (eq-eqb cell 2 (sym is ∙ e))
-
-  pub filled_yes : (r ≡ 2 → ⊥) → not (is_empty cell) ≡ true
-  unfolding is_empty
-  filled_yes f = simp (ne_eqb cell 2 (λ e. f (is ∙ e)))
 
 -- Question 20, in the smallest open subformula, if there is one.
 pub open_asked :
@@ -255,3 +212,12 @@ pub open_asked :
 unfolding some_open
 open_asked J t None within is = le-ltb (smallest_open J t) (subformula_count J) (omega (arith, is))
 open_asked J t (Some k) within is = lt-ltb (smallest_open J t) (subformula_count J) (omega (arith, is, within))
+
+-- By what the search shows which question is the first to be answered no, where there are several laws.
+pub ruleset offer_laws = (table_number, named_number, offer_asked, numbered)
+
+pub ruleset accept_laws = (step_asked, named_number, accept_asked, border_asked, numbered)
+
+pub ruleset look_laws = (table_number, look_asked, fragment_asked, numbered, read_below, image_job)
+
+pub ruleset close_laws = (table_number, close_asked, open_asked, numbered)

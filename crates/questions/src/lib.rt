@@ -22,6 +22,7 @@ use right_cells::cells_right;
 use table::cell::{cell, owner_cell};
 
 // Finish, and before their other questions all calls but fresh: 9 and 10.
+#[tactic(auto, using(crate::proofs::NoLaws::table_number, crate::proofs::NoLaws::length_is))]
 pub fn ask_table(m: &Image, table: &[u8]) -> Result<(), Refusal>
     ensures first_no { no_of result ≡ no_number (own_questions Call.finish (job_of m.now) table.now) }
     ensures no_line { NoLine result }
@@ -35,6 +36,7 @@ pub fn ask_table(m: &Image, table: &[u8]) -> Result<(), Refusal>
     Ok(())
 }
 
+#[tactic(auto, using(crate::proofs::NoLaws::table_number, crate::proofs::NoLaws::step_asked, job::proofs::RefusedLaws::numbered))]
 pub fn ask_step(m: &Image, table: &[u8], node: usize) -> Result<(), Refusal>
     ensures first_no { no_of result ≡ no_number (own_questions (Call.step node) (job_of m.now) table.now) }
     ensures no_line { NoLine result }
@@ -54,6 +56,7 @@ fn are_in(m: &Image, s: usize, k: usize) -> bool
 }
 
 // Questions 12 and 13: what a message names.
+#[tactic(auto, using(crate::proofs::NoLaws::named_number), unfolding(cells::specs::Close::is_temporal))]
 fn ask_named(m: &Image, s: usize, k: usize) -> Result<(), Refusal>
     ensures first_no { no_of result ≡ no_number (numbers_below (job_of m.now) s k ∷ temporal_named (job_of m.now) k ∷ []) }
     ensures no_line { NoLine result }
@@ -67,6 +70,7 @@ fn ask_named(m: &Image, s: usize, k: usize) -> Result<(), Refusal>
     Ok(())
 }
 
+#[tactic(auto, using(crate::proofs::NoLaws::offer_laws), unfolding(cells::specs::Table::is_empty))]
 pub fn ask_offer(m: &Image, table: &[u8], s: usize, k: usize) -> Result<(), Refusal>
     ensures first_no { no_of result ≡ no_number (own_questions (Call.offer s k) (job_of m.now) table.now) }
     ensures no_line { NoLine result }
@@ -80,12 +84,14 @@ pub fn ask_offer(m: &Image, table: &[u8], s: usize, k: usize) -> Result<(), Refu
 }
 
 // Question 17: whether a cell is empty or that value.
+#[tactic(auto, unfolding(cells::specs::Table::is_empty))]
 fn agrees(cell: u8, v: u8) -> bool
     ensures { result ≡ (is_empty cell || eqb cell v) }
 {
     cell == 2 || cell == v
 }
 
+#[tactic(auto, using(crate::proofs::NoLaws::accept_laws))]
 pub fn ask_accept(
     m: &Image,
     table: &[u8],
@@ -122,6 +128,7 @@ fn is_node(m: &Image, n: usize) -> bool
 }
 
 // The node that is looked at: where none is named, the owner of the state.
+#[tactic(auto, unfolding(cells::specs::Calls::node_read))]
 pub fn node_read(m: &Image, n: usize, s: usize) -> usize
     requires { s < size (job_of m.now) }
     ensures { result ≡ node_read (job_of m.now) n s }
@@ -129,6 +136,7 @@ pub fn node_read(m: &Image, n: usize, s: usize) -> usize
     if n == NO_NODE { m.owner(s) } else { n }
 }
 
+#[tactic(auto, using(crate::proofs::NoLaws::look_laws))]
 pub fn ask_look(m: &Image, table: &[u8], n: usize, s: usize, k: usize) -> Result<(), Refusal>
     ensures first_no { no_of result ≡ no_number (own_questions (Call.look n s k) (job_of m.now) table.now) }
     ensures no_line { NoLine result }
@@ -146,6 +154,7 @@ pub fn ask_look(m: &Image, table: &[u8], n: usize, s: usize, k: usize) -> Result
     Ok(())
 }
 
+#[tactic(auto, using(crate::proofs::NoLaws::close_laws))]
 pub fn ask_close(m: &Image, table: &[u8]) -> Result<(), Refusal>
     ensures first_no { no_of result ≡ no_number (own_questions Call.close (job_of m.now) table.now) }
     ensures no_line { NoLine result }
@@ -161,6 +170,7 @@ pub fn ask_close(m: &Image, table: &[u8]) -> Result<(), Refusal>
 }
 
 // Page: those of step, and whether the buffer has room for a line for each state and one more.
+#[tactic(auto, using(crate::proofs::NoLaws::step_asked, crate::proofs::NoLaws::page_asked, job::proofs::RefusedLaws::numbered))]
 pub fn ask_page(m: &Image, table: &[u8], node: usize, room: usize) -> Result<(), Refusal>
     ensures first_no { no_of result ≡ no_number (own_questions (Call.page node room) (job_of m.now) table.now) }
     ensures no_line { NoLine result }

@@ -1,83 +1,81 @@
 -- The lines of an accepted text, laid, say the job that the text describes. Assumes nothing.
 use Prim.Native.Nat.{ℕ, ◌%◌, ◌<◌}
 use mathlib.Core.Path.{◌≡◌, sym, ◌∙◌, ap}
-use mathlib.Core.List.{List}
+use mathlib.Core.List.{List, map}
 use native.Mathlib.Nat.{mod-eq_of_lt}
 use native.Mathlib.Omega.{arith}
 use Rattle.law.specs.Lists.{tab}
-use Rattle.law.proofs.Lists.{tab_same}
+use Rattle.law.proofs.Lists.{tab_same, map_tab}
 use Rattle.text.specs.Field.{Text}
 use Rattle.job.specs.Layout as layout
-use Rattle.job.specs.Job.{subformula, decode}
+use Rattle.job.specs.Job.{decode}
 use Rattle.job.specs.Written.{no_edge}
 use Rattle.job.specs.Read.{read_told, read_answer}
 use Rattle.job.specs.Leaves.{Fits}
 use Rattle.job.specs.declared.reading.Header.{Header}
 use Rattle.job.specs.declared.refusal.Refusal.{Refusal}
 use Rattle.job.specs.declared.subformula.Subformula.{Subformula}
-use Rattle.job.specs.declared.subformula.Subformula.TheVariants.{Atom}
+use Rattle.arrayvec.specs.ArrayVec.{ArrayVec}
 use Rattle.std.proofs.Common.{Result, Ok, Err}
 use Rattle.job.proofs.QuestionLaws.{refused_not_accepted}
 use Rattle.job.proofs.Asked.{Passed}
 use Rattle.job.proofs.ReadLaws.{read_passed}
 use Rattle.edge_pass.specs.declared.Kept.{Kept}
-use Rattle.image.specs.Lines.{lines_job}
+use Rattle.image.specs.Lines.{lines_job, ends}
 use Rattle.image.specs.declared.job_lines.State.{State}
 use Rattle.image.specs.declared.job_lines.Edge as line
 use Rattle.image.specs.declared.job_lines.JobLines.{JobLines}
 use Rattle.line_reader.specs.LinesRead.{LinesRead, lines_of_states, lines_of_edges, lines_of_subformulas}
 use Rattle.reader.specs.JobRead.{JobRead}
 
-tab_both : {A : Type 0} (f g : ℕ → A) (n k : ℕ) (d : A) → n ≡ k → ((i : ℕ) → i < n → f i ≡ g i) → tab f n ≡ tab g k
-tab_both f g n k d e same = tab_same f g n d same ∙ ap (tab g) e
+-- what the lines say, as a list of what each says
+says_are :
+    {L A : Type 0} (g : L → A) (says : ℕ → L) (list : List L) (f : ℕ → A) (b n k : ℕ) (d : A)
+    → list ≡ tab says b → b ≡ n → n ≡ k → ((i : ℕ) → i < n → g (says i) ≡ f i) → map g list ≡ tab f k
+says_are g says list f b n k d laid all e same =
+    ap (map g) laid ∙ map_tab g says b ∙ ap (tab (λ i. g (says i))) all ∙ tab_same (λ i. g (says i)) f n d same ∙ ap (tab f) e
 
 module _
-    (t : Text) (h : Header) (fits : Fits t h) (states : List State) (edges : List line.Edge) (formula : List Subformula) (s : ℕ) (k : Kept) (f : ℕ)
-    (state : LinesRead (lines_of_states t h) states (Ok s))
-    (edge : LinesRead (lines_of_edges t h) edges (Ok k))
-    (subformulas : LinesRead (lines_of_subformulas t h) formula (Ok f))
+    (t : Text) (h : Header) (fits : Fits t h) (states : ArrayVec State) (edges : ArrayVec line.Edge) (formula : ArrayVec Subformula)
+    (s : ℕ) (k : Kept) (f : ℕ)
+    (state : LinesRead (lines_of_states t h) states.items (Ok s))
+    (edge : LinesRead (lines_of_edges t h) edges.items (Ok k))
+    (subformulas : LinesRead (lines_of_subformulas t h) formula.items (Ok f))
   where
     abbrev m : JobLines
-    m = record { header = h; states = states; edges = edges; formula = formula }
+    m = record { nodes = h.nodes; states = states; edges = edges; formula = formula }
 
     -- The numbers of an accepted text fit their fields, so they stand there exactly.
     says : (g : Header) → read_told (Ok g) ≡ read_answer t → lines_job m ≡ decode t
-    unfolding lines_job decode subformula
+    unfolding lines_job decode
     says g told =
         λ i.
-        record { structure = record { labels = labels i; edges = ends i }; formula = formulas i; nodes = sym fits.nodes_are i; owners = owners i }
+        record { structure = record { labels = labels i; edges = edges_are i }; formula = formulas i; nodes = sym fits.nodes_are i; owners = owners i }
       where
         passed : Passed t
         passed = read_passed t g told
 
         labels : (lines_job m).structure.labels ≡ (decode t).structure.labels
         labels =
-            tab_both _ _ h.states (layout.states t) 0 (sym fits.states_are)
-            (λ s l.
-            ap (λ (x : State). x.label) (state.laid s (omega (arith, state.told.0)))
-            ∙ mod-eq_of_lt (omega (arith, passed.labels s (omega (arith, fits.states_are)))))
+            says_are _ _ _ _ _ h.states (layout.states t) 0 state.laid state.told.0 (sym fits.states_are)
+            (λ s l. mod-eq_of_lt (omega (arith, passed.labels s (omega (arith, fits.states_are)))))
 
         owners : (lines_job m).owners ≡ (decode t).owners
         owners =
-            tab_both _ _ h.states (layout.states t) 0 (sym fits.states_are)
-            (λ s l.
-            ap (λ (x : State). x.owner) (state.laid s (omega (arith, state.told.0)))
-            ∙ mod-eq_of_lt (omega (arith, passed.owners s (omega (arith, fits.states_are)), fits.nodes_are, fits.nodes_to)))
+            says_are _ _ _ _ _ h.states (layout.states t) 0 state.laid state.told.0 (sym fits.states_are)
+            (λ s l. mod-eq_of_lt (omega (arith, passed.owners s (omega (arith, fits.states_are)), fits.nodes_are, fits.nodes_to)))
 
-        ends : (lines_job m).structure.edges ≡ (decode t).structure.edges
-        ends =
-            tab_both _ _ h.edges (layout.edges t) no_edge (sym fits.edges_are)
+        edges_are : (lines_job m).structure.edges ≡ (decode t).structure.edges
+        edges_are =
+            says_are ends _ _ _ _ h.edges (layout.edges t) no_edge edge.laid edge.told.0 (sym fits.edges_are)
             (λ e l.
             let (from, to) = passed.ends e (omega (arith, fits.edges_are)) in
             let source : layout.source_field t e % 256 ≡ layout.source_field t e = mod-eq_of_lt (omega (arith, fits.states_are, fits.states_to)) in
             let target : layout.target_field t e % 256 ≡ layout.target_field t e = mod-eq_of_lt (omega (arith, fits.states_are, fits.states_to)) in
-            ap (λ (x : line.Edge). record { from = x.source; to = x.target }) (edge.laid e (omega (arith, edge.told.0)))
-            ∙ (λ i. record { from = source i; to = target i }))
+            λ i. record { from = source i; to = target i })
 
         formulas : (lines_job m).formula ≡ (decode t).formula
-        formulas =
-            tab_both _ _ h.subformulas (layout.subformulas t) (Atom 0) (sym fits.subformulas_are)
-            (λ k l. subformulas.laid k (omega (arith, subformulas.told.0)))
+        formulas = subformulas.laid ∙ ap (tab _) (subformulas.told.0 ∙ sym fits.subformulas_are)
 
     pub job_read : (r : Result Header Refusal) → read_told r ≡ read_answer t → JobRead t m r
     job_read r told = record { told = told; laid = λ g e. says g (ap read_told (sym e) ∙ told) }

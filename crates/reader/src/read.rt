@@ -5,7 +5,7 @@ ghost use Rattle.job.specs.Read.{header_numbers, read_told, read_answer};
 ghost use Rattle.reader.specs.LineQuestions.{Askable, lines_asked};
 ghost use Rattle.reader.specs.JobRead.{JobRead};
 
-use edge_pass::{Kept, terminal_state};
+use edge_pass::Kept;
 use image::job_lines::JobLines;
 use job::reading::Header;
 use job::refusal::Refusal;
@@ -27,7 +27,7 @@ fn ask_lines(h: Header, s: usize, kept: Kept, k: usize) -> Result<Header, Refusa
     if order.right != order.lines {
         return Err(Refusal::EdgeLine(2 + order.states + order.right));
     }
-    if let Some(terminal) = terminal_state(&kept.starts, order.states) {
+    if let Some(terminal) = kept.terminal_state() {
         return Err(Refusal::NoEdgeOut(2 + terminal));
     }
     if k != h.subformulas {
@@ -37,12 +37,14 @@ fn ask_lines(h: Header, s: usize, kept: Kept, k: usize) -> Result<Header, Refusa
 }
 
 // The reader's answer; where it accepts, what the text's lines say is in the lines that are lent.
+// Inlined, so that `read`, which keeps no line, stores none.
+#[inline(always)]
 #[tactic(auto, using(job::proofs::LayoutLaws::head_fits), unfolding(job::specs::Read::read_told))]
 pub fn read_lines(text: &[u8], lines: &mut JobLines) -> Result<Header, Refusal>
     ensures { JobRead text.now lines.new result }
 {
     let h = head(text)?;
-    lines.header = h;
+    lines.nodes = h.nodes;
     let states = read_states(text, h, &mut lines.states)?;
     let kept = read_edges(text, h, &mut lines.edges)?;
     let formulas = read_formulas(text, h, &mut lines.formula)?;

@@ -10,7 +10,7 @@ use image::image::Image;
 use pending::Pending;
 use table::cell::owner_cell;
 
-// The owner's cell of state 0 and the whole formula, the rounds done, the last one counted, and the cells filled.
+// The owner's cell of state 0 and the whole formula, a byte as in the table, the rounds done, the last one counted, and the cells filled.
 #[derive(Clone, Copy, Debug, PartialEq, Eq)]
 pub struct Outcome {
     pub verdict: u8,

@@ -1,13 +1,12 @@
 -- Looking for a line, and the lines behind one that is kept. Assumes nothing.
-use Prim.Native.Nat.{ℕ, ◌+◌, ◌<◌, ◌≤◌}
+use Prim.Native.Nat.{ℕ, ◌<◌, ◌≤◌}
 use mathlib.Core.Path.{◌≡◌, refl, sym, ap, subst, ◌∙◌}
 use mathlib.Core.Bool.{Bool, true, false, not}
 use mathlib.Core.List.{List, [], ◌∷◌, ◌++◌, map}
-use native.Mathlib.Numerals.{one-add, add-one}
+use native.Mathlib.Numerals.{one-add}
 use native.Mathlib.Omega.{arith}
 use lib.Dec.{ltb}
-use lib.ListN.{length, take, set, length-map}
-use lib.Seq.{length-take-le, take-suc-set}
+use lib.ListN.{length, length-map}
 use borrow.Author.Tests.{lt-ltb, le-ltb, ltb-true, ltb-false}
 use Rattle.std.proofs.lemmas.List.Sums.{prefix_len-le-length}
 use Rattle.std.specs.Prelude.{Option}
@@ -77,13 +76,10 @@ module _ (l : List ℕ) (ls : List (List ℕ)) (n : ℕ) where
           number = counted ∙ sym new;
         }
 
--- The lines that the first n of an array are.
-module _ (lines : List Subformula) (n : ℕ) (ls : List (List ℕ)) (held : map fields (take n lines) ≡ ls) where
-  pub lines_counted : n ≤ length lines → n ≡ length ls
-  lines_counted inside = sym (ap length (sym held) ∙ length-map (take n lines) fields ∙ length-take-le n lines inside)
+-- The lines that these subformulas are.
+module _ (kept : List Subformula) (ls : List (List ℕ)) (held : map fields kept ≡ ls) where
+  pub lines_counted : length kept ≡ length ls
+  lines_counted = sym (length-map kept fields) ∙ ap length held
 
-  pub one_more : (f : Subformula) → n < length lines → map fields (take (n + 1) (set lines n f)) ≡ ls ++ (fields f ∷ [])
-  one_more f inside =
-      ap (map fields) (ap (λ k. take k (set lines n f)) (add-one n) ∙ take-suc-set lines n f inside)
-      ∙ map_append (take n lines) f
-      ∙ ap (λ ks. ks ++ (fields f ∷ [])) held
+  pub one_more : (f : Subformula) (after : List Subformula) → after ≡ kept ++ (f ∷ []) → map fields after ≡ ls ++ (fields f ∷ [])
+  one_more f after pushed = ap (map fields) pushed ∙ map_append kept f ∙ ap (λ ks. ks ++ (fields f ∷ [])) held

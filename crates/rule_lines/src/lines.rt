@@ -1,25 +1,22 @@
 // The lines of a rule, in the order in which they are kept. In a contract they are the numbers of each.
-ghost use Rattle.std.specs.Prelude.{◌≡◌, ℕ, List, [], ◌≤◌, map, length, take};
+ghost use Rattle.std.specs.Prelude.{◌≡◌, ℕ, List, [], ◌≤◌, map, length};
 ghost use Rattle.job.specs.Formula.{fields};
 ghost use Rattle.rule_text.specs.Kept as kept;
 ghost use Rattle.rule_lines.specs.Held.{Finds, KeptAs};
 
+use arrayvec::ArrayVec;
 use job::subformula::Subformula;
 use std::marker::Model;
 
-// Its own array and count: the kit's `ArrayVec` fills its free places with a default, and no subformula is one.
 #[derive(Drop)]
 pub struct Lines {
-    kept: [Subformula; 33],
-    count: usize,
+    kept: ArrayVec<Subformula, 33>,
 }
 
 impl Model for Lines {
     ghost Value = { List (List ℕ) };
 
-    ghost view = { λ l. map fields (take l.count l.kept) };
-
-    ghost invariant = { λ l. (length l.kept ≡ 33) × (l.count ≤ 33) };
+    ghost view = { λ l. map fields l.kept.items };
 }
 
 impl Lines {
@@ -27,21 +24,20 @@ impl Lines {
         ensures { result ≡ [] }
     {
         Lines {
-            kept: [Subformula::Atom(0); 33],
-            count: 0,
+            kept: ArrayVec::new(),
         }
     }
 
     pub fn count(&self) -> usize
         ensures { (result ≡ length self.now) × (result ≤ 33) }
     {
-        self.count
+        self.kept.len()
     }
 
     pub fn as_slice(&self) -> &[Subformula]
         ensures { map fields result.now ≡ self.now }
     {
-        &self.kept[..self.count]
+        self.kept.as_slice()
     }
 
     // The number of the first line that is this one.
@@ -58,10 +54,9 @@ impl Lines {
         if let Some(k) = self.find(f) {
             return k;
         }
-        let number = self.count;
+        let number = self.kept.len();
         if number < 33 {
-            self.kept[number] = f;
-            self.count += 1;
+            self.kept.push(f);
         }
         number
     }

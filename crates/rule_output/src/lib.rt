@@ -31,7 +31,7 @@ fn rule_behind(text: &[u8], out: &mut [u8]) -> Result<usize, Refusal>
     rule(text, &mut out[11..523])
 }
 
-// The two numbers of the first line. No conversion of the library's makes numbers of a result, so a `match` does.
+// The two numbers of the first line. By hand, since crate numbers stands above the calls on a table, and rule takes no job.
 #[tactic(auto, unfolding(crate::specs::RuleOutput::number_told, crate::specs::RuleOutput::lines_told, rule_call::specs::Ruled::ruled_told))]
 fn first_numbers(told: Result<usize, Refusal>) -> [usize; 2]
     ensures { result ≡ number_told (ruled_told told) ∷ lines_told (ruled_told told) ∷ [] }

@@ -11,24 +11,28 @@ pub struct Binding {
     pub leftward: bool,
 }
 
+// Of `&`, `|` and `=>`. A constant table and no `match`: document 01 names this form.
+const BINDINGS: [Binding; 3] = [
+    Binding {
+        strength: 3,
+        leftward: true,
+    },
+    Binding {
+        strength: 2,
+        leftward: true,
+    },
+    Binding {
+        strength: 1,
+        leftward: false,
+    },
+];
+
+// The operator's line of the table.
 #[tactic(auto, unfolding(rule_text::specs::Grammar::strength, rule_text::specs::Grammar::groups_left, crate::specs::Binding::binding_of))]
 pub fn binding_of(o: Operator) -> Binding
     ensures { result ≡ binding_of o }
 {
-    match o {
-        Operator::And => Binding {
-            strength: 3,
-            leftward: true,
-        },
-        Operator::Or => Binding {
-            strength: 2,
-            leftward: true,
-        },
-        Operator::Implies => Binding {
-            strength: 1,
-            leftward: false,
-        },
-    }
+    BINDINGS[o as usize]
 }
 
 // The least strength of the operators in the right operand: a greater one than its own where the operator groups to the left.

@@ -9,10 +9,10 @@ use native.Mathlib.Numerals.{one-add}
 use native.Mathlib.Omega.{arith}
 use borrow.Author.Tests.{eqb-true, eqb-false}
 use lib.Dec.{eqb}
-use lib.ListN.{length, take, drop, get_or, replicate, length-take, length-drop}
+use lib.ListN.{length, take, drop, get_or, replicate, length-drop}
 use lib.Seq.{drop-drop}
 use Rattle.std.proofs.lemmas.List.{take_all}
-use Rattle.std.specs.List.{prefix_len, take_while}
+use Rattle.std.specs.List.{prefix_len}
 use Rattle.law.proofs.Bool.{split}
 use Rattle.text.specs.Field.{Text}
 use Rattle.rule_text.specs.Scan.{first_lexeme, lexed, followed, tokens}
@@ -102,20 +102,16 @@ space_stops (c ∷ x) =
     (λ t e. space_stops x (sym (ap (λ n. get_or (drop n (c ∷ x)) 0 0) (more_spaces c x t)) ∙ e))
     (λ f e. eqb-false c 32 f (sym (ap (λ n. get_or (drop n (c ∷ x)) 0 0) (no_space c x f)) ∙ e))
 
-space_inside : (x : Text) → prefix_len is_space x ≤ length x
+pub space_inside : (x : Text) → prefix_len is_space x ≤ length x
 space_inside [] = omega arith
 space_inside (c ∷ x) =
     split (is_space c)
     (λ t. let h = space_inside x in let e = more_spaces c x t in omega arith)
     (λ f. let e = no_space c x f in omega arith)
 
-counted_is : (x : Text) (n : ℕ) → n ≡ length (take_while is_space x) → n ≡ prefix_len is_space x
-counted_is x n e = let l = space_inside x in let h = length-take (prefix_len is_space x) x in omega arith
-
-pub skips_spaces : (x : Text) (n : ℕ) → n ≡ length (take_while is_space x) → Skips x (take (length x - n) (drop n x))
-skips_spaces x n e =
+pub skips_spaces : (x : Text) (n : ℕ) → n ≡ prefix_len is_space x → Skips x (take (length x - n) (drop n x))
+skips_spaces x n is =
     let l = space_inside x in
-    let is = counted_is x n e in
     rw (rest_is n x, is)
     (record {
       spaces = prefix_len is_space x;

@@ -59,7 +59,7 @@ fn pair(c: u8, d: u8) -> Lexeme
     ensures { result ≡ scanned.word2 c d }
 {
     let token = match (c, d) {
-        (b'p', b'0'..=b'9') => Token::Atom((d - b'0') as usize),
+        (b'p', b'0'..=b'9') => Token::Atom(usize::from(d - b'0')),
         (b'A', b'X') => Token::Prefix(Prefix::Ax),
         (b'E', b'X') => Token::Prefix(Prefix::Ex),
         (b'E', b'G') => Token::Prefix(Prefix::Eg),
@@ -76,7 +76,7 @@ fn triple(c: u8, d: u8, e: u8) -> Lexeme
 {
     match (c, d, e) {
         (b'p', b'1', b'0'..=b'5') => Lexeme {
-            token: Token::Atom((e - 38) as usize),
+            token: Token::Atom(usize::from(e - 38)),
             width: 3,
         },
         _ => UNKNOWN,

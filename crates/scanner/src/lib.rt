@@ -1,4 +1,4 @@
-// The tokens of rule text, one at a time: which token stands at a place of a text, and where it ends. Any bytes may be passed; what is no
+// The tokens of rule text, one at a time: which token a text starts with, and the text behind it. Any bytes may be passed; what is no
 // token is answered as unknown.
 #![tactic(auto)]
 

@@ -48,7 +48,8 @@ pub extern "C" fn selahmur_look(
     store(out, look(text, table, node, state, subformula));
 }
 
-// Makes the empty cells of the smallest open subformula 0, on a settled table. Own numbers: that subformula, how many cells are filled.
+// Fills the empty cells of the smallest open subformula, on a settled table: with 0 for an until, with 1 for EG and AG. Own numbers: that
+// subformula, how many cells are filled.
 #[tactic(auto, using(crate::proofs::AnswerLaws::stored_told), unfolding(calls::specs::Told::close_told))]
 #[unsafe(no_mangle)]
 pub extern "C" fn selahmur_close(text: &[u8], table: &mut [u8], out: &mut [usize])

@@ -17,7 +17,7 @@ use spread::spread::spread;
 use table::cell::cell;
 use table::column::fill_column;
 
-// A condition as one cell to read: it is met where the cell of `subformula` is `value`.
+// A condition as one cell to read: it is met where the cell of `subformula` is `value`, a byte as in the table.
 #[derive(Clone, Copy, Debug, PartialEq, Eq)]
 struct WantedCell {
     subformula: usize,

@@ -1,6 +1,6 @@
 pub mod Marks
 pub mod Chain
-pub mod Waiting
+pub mod Waits
 pub mod Tally
 pub mod Turn
 pub mod Walk

@@ -22,7 +22,7 @@ use Rattle.cells.proofs.FragmentLaws.{owns_intro, owned_inside}
 use Rattle.image.specs.Image.{edge_from, edge_to}
 use Rattle.spread.specs.Spread.{spread_rule}
 use Rattle.spread.specs.Underway.{enough, outs, seen_outs, in_set, Underway}
-use Rattle.spread.proofs.Waiting.{waits_room, waits_push}
+use Rattle.spread.proofs.Waits.{waits_room, waits_push}
 use Rattle.spread.proofs.Tally.{source_in, target_in, enough_over, seen_few, seen_same, seen_here, seen_other}
 
 pub rule_mono : (M : Structure) (q : Quantifier) (before : List ℕ) → Monotone (spread_rule M q before)

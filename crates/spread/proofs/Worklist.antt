@@ -19,11 +19,10 @@ use Rattle.job.proofs.Successors.{edge_listed}
 use Rattle.cells.specs.Fragment.{owns, in_fragment}
 use Rattle.cells.proofs.FragmentLaws.{owns_owner, inner_owned, next_inside}
 use Rattle.image.specs.Image.{edge_from, edge_to}
-use Rattle.spread.specs.Spread.{numbers, spread_rule, Joinable, Spread}
-use Rattle.spread.specs.declared.mark.Mark.{Mark}
+use Rattle.spread.specs.Spread.{spread_rule, Joinable, Spread}
 use Rattle.spread.specs.declared.spread.Worklist.{Worklist}
 use Rattle.spread.specs.Underway.{enough, outs, seen_outs, in_set, none_told, told_too, told_edge, Waits, Underway, Spreading, Taken}
-use Rattle.spread.proofs.Waiting.{last_waits, one_told, waits_pop, waits_over, set_marked}
+use Rattle.spread.proofs.Waits.{last_waits, one_told, waits_pop, waits_over, set_marked}
 use Rattle.spread.proofs.Tally.{target_in, outs_some, enough_none, seen_none, seen_same, over_enough}
 use Rattle.spread.proofs.Turn.{in_least, rule_mono, marked_sound}
 
@@ -53,15 +52,15 @@ list_start {J} {n} {all} {marks} {waiting} job long l =
 
 -- the last state that waits is taken
 pub list_taken :
-    {J : Job} {n : ℕ} {all : Bool} {before : List ℕ} {told : ℕ → Bool} (w : Worklist) → Spreading J n all before told w
-    → (rest : List ℕ) (t : ℕ) → w.waiting.items ≡ rest ++ t ∷ []
-    → (w' : Worklist) → w'.marks ≡ w.marks → w'.counts ≡ w.counts → w'.waiting.items ≡ rest
-    → Taken J n all before told t w'
-list_taken {J} {n} {all} {before} {told} w u rest t is w' same_marks same_counts its =
+    {J : Job} {n : ℕ} {all : Bool} {before : List ℕ} {told : ℕ → Bool} {marks : List ℕ} (w : Worklist) → Spreading J n all before told marks w
+    → (rest : List ℕ) (t : ℕ) → w.waiting ≡ rest ++ t ∷ []
+    → (w' : Worklist) → w'.counts.now ≡ w.counts.now → w'.waiting ≡ rest
+    → Taken J n all before told t marks w'
+list_taken {J} {n} {all} {before} {told} {marks} w u rest t is w' same_counts its =
     let l = last_waits u.lists rest t is in
     record {
       underway =
-          rw (same_marks, same_counts, its)
+          rw (same_counts, its)
           (record {
             marks_long = u.marks_long;
             counts_long = u.counts_long;
@@ -72,22 +71,22 @@ list_taken {J} {n} {all} {before} {told} w u rest t is w' same_marks same_counts
             counted = u.counted;
           });
       state_in = l.0;
-      marked = ap (λ (m : List Mark). get_or (numbers m) t 0) same_marks ∙ set_marked J n (numbers w.marks) t l.1;
+      marked = set_marked J n marks t l.1;
       new = l.2;
     }
 
 -- how many states are not told: those not in the set, and those that wait
-abbrev pub left : Job → ℕ → Worklist → ℕ
-left J n w = size J - count (in_set J n (numbers w.marks)) (size J) + length w.waiting.items
+abbrev pub left : Job → ℕ → List ℕ → Worklist → ℕ
+left J n marks w = size J - count (in_set J n marks) (size J) + length w.waiting
 
 pub list_less :
-    {J : Job} {n : ℕ} {all : Bool} {before : List ℕ} {told : ℕ → Bool} (w w' : Worklist)
-    → Spreading J n all before told w
-    → (rest : List ℕ) (t : ℕ) → w.waiting.items ≡ rest ++ t ∷ []
-    → Spreading J n all before (told_too told t) w'
-    → left J n w' < left J n w
-list_less {J} {n} {all} {before} {told} w w' u rest t is v =
-    omega (arith, u.lists.all_here, v.lists.all_here, one_told u.lists rest t is, count_le (in_set J n (numbers w.marks)) (size J), count_le (in_set J n (numbers w'.marks)) (size J))
+    {J : Job} {n : ℕ} {all : Bool} {before : List ℕ} {told : ℕ → Bool} {marks marks' : List ℕ} (w w' : Worklist)
+    → Spreading J n all before told marks w
+    → (rest : List ℕ) (t : ℕ) → w.waiting ≡ rest ++ t ∷ []
+    → Spreading J n all before (told_too told t) marks' w'
+    → left J n marks' w' < left J n marks w
+list_less {J} {n} {all} {before} {told} {marks} {marks'} w w' u rest t is v =
+    omega (arith, u.lists.all_here, v.lists.all_here, one_told u.lists rest t is, count_le (in_set J n marks) (size J), count_le (in_set J n marks') (size J))
 
 module _ {J : Job} {n : ℕ} {all : Bool} {before marks counts waiting : List ℕ} {told : ℕ → Bool} (job : IsJob J)
     (w : Underway J n all before (told_edge J n told) told marks counts waiting) where

@@ -7,7 +7,7 @@ use Rattle.job.specs.Rule.{quantifier}
 use Rattle.job.specs.Written.{edge_count}
 use Rattle.cells.specs.Fragment.{in_fragment}
 use Rattle.image.specs.Image.{edge_from, edge_to}
-use Rattle.spread.specs.Spread.{spread_rule, numbers}
+use Rattle.spread.specs.Spread.{spread_rule}
 use Rattle.spread.specs.declared.spread.Worklist.{Worklist}
 
 -- Whether that many told edges, of those out of a state, are all of them, or some.
@@ -61,13 +61,12 @@ pub record Underway (J : Job) (n : ℕ) (all : Bool) (before : List ℕ) (seen t
   pub counted : (s : ℕ) → s < size J → get_or counts s 0 ≡ seen_outs J.structure seen s
 
 -- Between two states that are told: the node's edges into told states are seen.
-abbrev pub Spreading : Job → ℕ → Bool → List ℕ → (ℕ → Bool) → Worklist → Type 0
-Spreading J n all before told w =
-    Underway J n all before (told_edge J n told) told (numbers w.marks) w.counts w.waiting.items
+abbrev pub Spreading : Job → ℕ → Bool → List ℕ → (ℕ → Bool) → List ℕ → Worklist → Type 0
+Spreading J n all before told marks w = Underway J n all before (told_edge J n told) told marks w.counts.now w.waiting
 
 -- The state t is taken from the list to be told.
-pub record Taken (J : Job) (n : ℕ) (all : Bool) (before : List ℕ) (told : ℕ → Bool) (t : ℕ) (w : Worklist) : Type 0 where
-  pub underway : Underway J n all before (told_edge J n told) (told_too told t) (numbers w.marks) w.counts w.waiting.items
+pub record Taken (J : Job) (n : ℕ) (all : Bool) (before : List ℕ) (told : ℕ → Bool) (t : ℕ) (marks : List ℕ) (w : Worklist) : Type 0 where
+  pub underway : Underway J n all before (told_edge J n told) (told_too told t) marks w.counts.now w.waiting
   pub state_in : t < size J
-  pub marked : get_or (numbers w.marks) t 0 ≡ 2
+  pub marked : get_or marks t 0 ≡ 2
   pub new : told t ≡ false

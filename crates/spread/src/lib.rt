@@ -3,3 +3,4 @@
 
 pub mod mark;
 pub mod spread;
+mod waiting;

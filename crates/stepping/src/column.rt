@@ -1,4 +1,5 @@
-// The step of one column, by its subformula's rule.
+// The step of one column, by its subformula's rule. That its operands are smaller, `InRange`, is asked wherever a rule is passed: a type that says so would be
+// a rule and its number, of which each function has the number already.
 ghost use Rattle.job.specs.Rule.{InRange};
 ghost use Rattle.image.specs.Denoted.{job_of};
 ghost use Rattle.table.specs.Lent.{Ready, IsColumn};

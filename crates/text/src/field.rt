@@ -3,11 +3,11 @@ ghost use Rattle.std.specs.Prelude.{◌≡◌, ◌+◌, ◌≤◌, eqb, length, 
 ghost use Rattle.std.specs.List.{prefix_len};
 ghost use Rattle.text.specs.Field.{digits, field};
 
-// How many columns are spaces before anything else.
-fn spaces(columns: &[u8]) -> usize
-    ensures { result ≡ prefix_len (λ c. eqb c 32) columns.now }
+// How many spaces come before anything else.
+pub fn spaces(text: &[u8]) -> usize
+    ensures { result ≡ prefix_len (λ c. eqb c 32) text.now }
 {
-    columns.iter().take_while(|&&c| c == b' ').count()
+    text.iter().take_while(|&&c| c == b' ').count()
 }
 
 // The columns behind a first digit `first`.

@@ -1,15 +1,19 @@
 -- `page_output`: the page of the table that finish leaves, or the numbers of the refusal.
-use mathlib.Core.Path.{◌≡◌, sym, ap, ap₂, ◌∙◌}
+use mathlib.Core.Path.{◌≡◌, refl, sym, ap, ◌∙◌}
+use mathlib.Core.List.{[], ◌∷◌}
 use lib.ListN.{take, replicate}
 use Rattle.std.proofs.Common.{Err}
+use Rattle.text.specs.Decimal.{Short}
 use Rattle.job.specs.Answer.{refused}
+use Rattle.job.specs.Refused.{number_of, line_of_refusal}
+use Rattle.job.specs.declared.refusal.Refusal.{Refusal}
 use Rattle.cells.specs.Table.{Table}
 use Rattle.cells.specs.Calls.{finish, after}
 use Rattle.calls.specs.Told.{page_told}
 use Rattle.page_output.proofs.OutputLaws.{numbers_short, said_is, page_said, refusal_said}
 use borrow.Author.Rules.{rules}
 use Rattle.page_output.proofs.page_output.Goals as goal
-use Rattle.page_output.proofs.page_output.Goals.{After-page, After-line}
+use Rattle.page_output.proofs.page_output.Goals.{After-page}
 
 -- the table that the call is lent
 module _ (c : After-page) where
@@ -33,21 +37,21 @@ returns-in-Ok c =
     ∙ said_is _ _ _ c.node_named.ensures
 
 -- the numbers of the refusal
-module _ (c : After-line) where
-  refused_is : refused c.from.result c.line.result 0 ≡ page_told (Err c.in-Err.why)
-  unfolding page_told
-  refused_is = ap₂ (λ n l. refused n l 0) (c.from.ensures ∙ c.number.ensures) c.line.ensures
+refused_is : (why : Refusal) → refused (number_of why) (line_of_refusal why) 0 ≡ page_told (Err why)
+unfolding page_told
+refused_is why = refl
 
 pub write_line-requires : goal.write_line-requires
 write_line-requires c =
-    let told_is = refused_is (goal.at.write_line-requires c).After-line ∙ sym (ap page_told c.in-Err.is) ∙ c.page.ensures.told in
-    (numbers_short _ _ _ _ _ _ _ told_is, search rules)
+    let told_is = refused_is c.in-Err.why ∙ sym (ap page_told c.in-Err.is) ∙ c.page.ensures.told in
+    let short : Short (number_of c.in-Err.why ∷ line_of_refusal c.in-Err.why ∷ []) = numbers_short _ _ _ _ _ _ _ told_is in
+    (rw c.numbers.ensures short, search rules)
 
 pub returns-in-Err : goal.returns-in-Err
 returns-in-Err c =
     let here = (goal.at.returns-in-Err c).After-page in
-    let told_is = refused_is (goal.at.returns-in-Err c).After-line ∙ sym (ap page_told c.in-Err.is) ∙ c.page.ensures.told in
+    let told_is = refused_is c.in-Err.why ∙ sym (ap page_told c.in-Err.is) ∙ c.page.ensures.told in
     c.new-in-Err.ensures
     ∙ refusal_said c.args.text.now _ _ c.table_size-size.ensures (t here) (table_is here) _ _ _ _ _ (search rules) (search rules) told_is
-    c.write_line.ensures
+    (rw c.numbers.ensures at c.write_line.ensures)
     ∙ said_is _ _ _ c.node_named.ensures

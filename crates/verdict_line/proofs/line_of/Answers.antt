@@ -1,5 +1,5 @@
 -- `line_of`: the line of the answer's numbers fills all 26 bytes.
-use Rattle.std.proofs.Common.{ℕ, List, ◌≡◌, [], ◌∷◌, length, get_or, ap, sym, subst, ◌∙◌, rules, arith}
+use Rattle.std.proofs.Common.{ℕ, List, ◌≡◌, [], ◌∷◌, get_or, ap, sym, subst, ◌∙◌, rules, arith}
 use Rattle.text.specs.Decimal.{line, Short}
 use Rattle.text.proofs.WriteLaws.{line_alone}
 use Rattle.job.specs.Answer.{numbers}

@@ -1,7 +1,6 @@
 -- `verdict_line`: the answer is finish's on a fresh table of the job's length.
-use Prim.Native.Nat.{ℕ, ◌≤◌}
-use mathlib.Core.Path.{◌≡◌, refl, sym, ◌∙◌, ap, subst}
-use lib.ListN.{replicate, length-replicate}
+use mathlib.Core.Path.{◌≡◌, sym, ◌∙◌, ap, subst}
+use lib.ListN.{replicate}
 use Rattle.text.specs.Decimal.{line, Short}
 use Rattle.job.specs.Job.{decode}
 use Rattle.job.specs.Answer.{numbers}
@@ -13,10 +12,6 @@ use Rattle.cells.proofs.CallLaws.{any_table}
 use Rattle.verdict_line.proofs.ShortLaws.{answer_short}
 use Rattle.verdict_line.proofs.verdict_line.Goals as goal
 use Rattle.verdict_line.proofs.verdict_line.Goals.{After-finish_fresh}
-
-pub finish_fresh-requires : goal.finish_fresh-requires
-finish_fresh-requires c =
-    record { size_in_bounds = subst (λ n. c.table_size-size.result ≤ n) (sym (length-replicate {A = ℕ} 65536 2)) c.table_size-size.ensures.small; cells_value = refl }
 
 numbers_here :
     (c : After-finish_fresh)

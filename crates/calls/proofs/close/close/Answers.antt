@@ -1,5 +1,5 @@
 -- `close`: the questions, and closing the smallest open subformula.
-use Rattle.std.proofs.Common.{◌<◌, ◌≡◌, refl, ap, ◌∙◌}
+use Rattle.std.proofs.Common.{◌<◌, refl, ap, ◌∙◌}
 use Rattle.std.proofs.lemmas.Result.{err_from_is_err_and}
 use Rattle.job.specs.Answer.{accepted}
 use Rattle.cells.specs.Calls.{Call, width, told, left}

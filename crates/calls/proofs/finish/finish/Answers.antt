@@ -1,10 +1,9 @@
 -- `finish`: the questions, and the rounds.
-use Rattle.std.proofs.Common.{◌≡◌, refl, ap, ◌∙◌, arith}
+use Rattle.std.proofs.Common.{refl, ap, ◌∙◌, arith}
 use Rattle.std.proofs.lemmas.Result.{err_from_is_err_and}
 use Rattle.job.specs.Answer.{accepted}
 use Rattle.cells.specs.Calls.{Call, width, told, left}
 use Rattle.cells.proofs.CallLaws.{reading_refused}
-use Rattle.image.specs.Denoted.{job_of}
 use Rattle.table.specs.Lent.{Ready}
 use Rattle.questions.proofs.NoLaws.{table_ready}
 use Rattle.calls.specs.Told.{finish_told, finish_rounds}

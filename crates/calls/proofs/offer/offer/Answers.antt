@@ -1,5 +1,5 @@
 -- `offer`: the questions, and the owner's cell.
-use Rattle.std.proofs.Common.{ℕ, ◌<◌, ◌≡◌, refl, ap, ◌∙◌, [], ◌∷◌}
+use Rattle.std.proofs.Common.{ℕ, ◌<◌, refl, ap, ◌∙◌, [], ◌∷◌}
 use Rattle.std.proofs.lemmas.Result.{err_from_is_err_and}
 use Rattle.job.specs.Answer.{accepted}
 use Rattle.cells.specs.Calls.{Call, width, told, left}

@@ -1,6 +1,7 @@
 -- `fragment_of`: the states passed so far have their places, and those of the fragment are listed.
 use Prim.Native.Nat.{◌≤◌}
 use mathlib.Core.Path.{◌≡◌}
+use lib.ListN.{length}
 use Rattle.job.specs.Job.{size}
 use Rattle.image.specs.Lines.{lines_job}
 use Rattle.decoding.proofs.FragmentLaws.{ListedSoFar}
@@ -8,5 +9,5 @@ use Rattle.decoding.proofs.decode.fragment_of.Given as goal
 
 abbrev pub invariant-loop-s : goal.invariant-loop-s
 invariant-loop-s l =
-    ((l.lines.header.states ≡ size (lines_job l.lines)) × (l.lines.header.states ≤ 256))
-    × ListedSoFar (lines_job l.lines) l.n l.s l.size l.places l.states
+    ((length l.lines.states.items ≡ size (lines_job l.lines)) × (length l.lines.states.items ≤ 256))
+    × ListedSoFar (lines_job l.lines) l.n l.s l.places l.states.items

@@ -10,5 +10,5 @@ use Rattle.decoding.proofs.decode.lay_chains.Given as goal
 
 abbrev pub invariant-loop-e : goal.invariant-loop-e
 invariant-loop-e l =
-    ((l.lines.header.edges ≡ edge_count (lines_job l.lines)) × (l.lines.header.edges ≤ 2048)) × Rows l.last × (length l.next ≡ 2048)
+    ((length l.lines.edges.items ≡ edge_count (lines_job l.lines)) × (length l.lines.edges.items ≤ 2048)) × Rows l.last × (length l.next ≡ 2048)
     × Chains (lines_job l.lines) l.e l.last l.next

@@ -1,6 +1,5 @@
 -- `lay_fragments`: the nodes passed so far have their fragments.
 use mathlib.Core.Path.{refl, sym, ◌∙◌, subst}
-use mathlib.Core.List.{[]}
 use native.Mathlib.Omega.{arith}
 use borrow.Author.Count.{below_none, below_more}
 use lib.ListN.{length-set}
@@ -23,9 +22,9 @@ loop-n-preserved c =
       l.invariant.0,
       length-set l.fragments l.n f ∙ l.invariant.1,
       below_more _ l.n
-          (λ n g. subst (IsFragment J n) (sym (get_or-set_other l.fragments l.n n f (record { places = []; size = 0; states = [] }) (λ q. omega arith))) (l.invariant.2 n g))
-          (subst (IsFragment J l.n) (sym (get_or-set_same l.fragments l.n f (record { places = []; size = 0; states = [] }) (omega (arith, l.invariant.0, l.invariant.1)))) c.fragment_of.ensures),
+          (λ n g past. subst (IsFragment J n) (sym (get_or-set_other l.fragments l.n n f past (λ q. omega arith))) (l.invariant.2 n g past))
+          (λ past. subst (IsFragment J l.n) (sym (get_or-set_same l.fragments l.n f past (omega (arith, l.invariant.0, l.invariant.1)))) c.fragment_of.ensures),
     )
 
 pub returns : goal.returns
-returns c = λ n g. c.loop-n.invariant.2 n (omega (arith, c.loop-n.invariant.0))
+returns c = λ n g past. c.loop-n.invariant.2 n (omega (arith, c.loop-n.invariant.0)) past

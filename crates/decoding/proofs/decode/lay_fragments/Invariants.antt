@@ -8,4 +8,4 @@ use Rattle.decoding.proofs.decode.lay_fragments.Given as goal
 
 abbrev pub invariant-loop-n : goal.invariant-loop-n
 invariant-loop-n l =
-    ((l.lines.header.nodes ≡ (lines_job l.lines).nodes) × (l.lines.header.nodes ≤ 8)) × (length l.fragments ≡ 8) × Fragments (lines_job l.lines) l.n l.fragments
+    ((l.lines.nodes ≡ (lines_job l.lines).nodes) × (l.lines.nodes ≤ 8)) × (length l.fragments ≡ 8) × Fragments (lines_job l.lines) l.n l.fragments

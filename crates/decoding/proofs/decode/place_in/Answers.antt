@@ -3,13 +3,16 @@ use mathlib.Core.Path.{◌≡◌, sym, ◌∙◌}
 use native.Mathlib.Omega.{arith}
 use Rattle.job.specs.Job.{owner}
 use Rattle.image.specs.Lines.{lines_job}
-use Rattle.image.proofs.LinesLaws.{owner_read}
+use Rattle.image.proofs.LinesLaws.{state_there, owner_read}
 use Rattle.decoding.proofs.PlaceLaws.{place_own, place_none, place_reached}
 use Rattle.decoding.proofs.decode.place_in.Goals as goal
 use Rattle.decoding.proofs.decode.place_in.Goals.{After-from, Else-from-n}
 
+pub bounds-as_slice-s : goal.bounds-as_slice-s
+bounds-as_slice-s c = state_there c.args.lines.now _ c.as_slice.ensures.value c.args.s c.requires.s_bound
+
 owner_here : (c : After-from) → c.from.result ≡ owner (lines_job c.args.lines.now) c.args.s
-owner_here c = (owner_read c.args.lines.now c.requires.is_job c.args.s c.requires.s_bound _ c.from.ensures).0
+owner_here c = (owner_read c.args.lines.now c.requires.is_job _ c.as_slice.ensures.value c.args.s c.requires.s_bound _ c.from.ensures).0
 
 pub returns-then-from-n : goal.returns-then-from-n
 returns-then-from-n c =

@@ -4,4 +4,4 @@ use Rattle.line_reader.proofs.LineLaws.{SoFar}
 use Rattle.line_reader.proofs.edges.read_edges.Given as goal
 
 abbrev pub invariant-loop-e : goal.invariant-loop-e
-invariant-loop-e l = SoFar (lines_of_edges l.text l.h) l.e l.kept l.edge-items
+invariant-loop-e l = SoFar (lines_of_edges l.text l.h) l.e l.kept l.edges.items

@@ -11,11 +11,11 @@ use Rattle.job.specs.declared.subformula.Subformula.{Subformula}
 use Rattle.job.specs.declared.subformula.Subformula.TheVariants.{Atom}
 use Rattle.job.specs.declared.refusal.Refusal.TheVariants.{MalformedLine}
 use Rattle.line_reader.specs.LinesRead.{lines_of_subformulas}
-use Rattle.line_reader.proofs.LineLaws.{none_read, line_read, stopped, all_read, right_none, right_few, right_next}
+use Rattle.line_reader.proofs.LineLaws.{none_read, so_many, line_read, stopped, all_read, right_none, right_few, right_next}
 use Rattle.line_reader.proofs.formula.read_formulas.Goals as goal
 
 pub loop-k-init : goal.loop-k-init
-loop-k-init c = none_read (lines_of_subformulas c.args.text.now c.args.h) 0 c.args.formula.now (omega (arith, c.told-formula)) (right_none _)
+loop-k-init c = none_read (lines_of_subformulas c.args.text.now c.args.h) 0 _ c.clear.ensures (right_none _)
 
 pub returns-in_err-kind : goal.returns-in_err-kind
 unfolding state_at subformula_at
@@ -27,7 +27,7 @@ returns-in_err-kind c =
     let read : line_numbers t (21 + 11 * (h.states + h.edges) + 16 * l.k) 3 ≡ None = grind arith in
     let here : line_numbers t (subformula_at t l.k) 3 ≡ None = rw (c.requires.states_are, c.requires.edges_are) read in
     let why : p.0 ≡ MalformedLine (2 + (h.states + h.edges) + l.k) = grind arith in
-    rw p.1 (stopped (lines_of_subformulas t h) l.k l.right l.subformula-items l.invariant _ _ p.0 (omega arith) (line_malformed t _ 3 here) why)
+    rw p.1 (stopped (lines_of_subformulas t h) l.k l.right l.formula.items l.invariant p.0 (omega arith) (line_malformed t _ 3 here) why)
 
 pub right_after-right-requires : goal.right_after-right-requires
 right_after-right-requires c = omega (arith, right_few (formula_ok c.args.text.now) c.loop-k.k c.loop-k.right c.loop-k.invariant.kept_is)
@@ -41,6 +41,9 @@ parsed_or : (o : Option Subformula) → unwrap_or o (Atom 0) ≡ spec.formula o
 unfolding spec.formula
 parsed_or (Some f) = refl
 parsed_or None = refl
+
+pub push-requires : goal.push-requires
+push-requires c = omega (arith, so_many (lines_of_subformulas c.args.text.now c.args.h) _ _ _ c.loop-k.invariant, c.requires.subformulas_to)
 
 pub loop-k-preserved : goal.loop-k-preserved
 unfolding state_at subformula_at kind_field left_field right_field formula_ok
@@ -58,10 +61,10 @@ loop-k-preserved c =
     let parsed : c.parse-parsed.result ≡ spec.parsed l.k (kind_field t l.k) (left_field t l.k) (right_field t l.k) =
     c.parse-parsed.ensures ∙ rw (kind, left, right) refl in
     let is_right = c.is_some.ensures ∙ ap is_some parsed ∙ parsed_some _ in
-    line_read (lines_of_subformulas t h) l.k l.right l.subformula-items l.invariant _ _ (omega arith) (line_formed t at 3 ns here)
-    (right_next (formula_ok t) l.k _ _ _ l.invariant.kept_is is_right c.right_after-right.ensures)
+    line_read (lines_of_subformulas t h) l.k l.right l.formula.items l.invariant _ _ _ (line_formed t at 3 ns here)
+    (right_next (formula_ok t) l.k _ _ _ l.invariant.kept_is is_right c.right_after-right.ensures) c.push.ensures.items
     (c.unwrap_or.ensures ∙ ap (λ (o : Option Subformula). unwrap_or o (Atom 0)) parsed ∙ parsed_or _)
 
 pub returns : goal.returns
 returns c =
-    let l = c.loop-k in all_read (lines_of_subformulas c.args.text.now c.args.h) l.k l.right l.subformula-items l.invariant _ (omega arith)
+    let l = c.loop-k in all_read (lines_of_subformulas c.args.text.now c.args.h) l.k l.right l.formula.items l.invariant (omega arith)

@@ -8,11 +8,11 @@ use Rattle.job.specs.Layout.{state_at, owner_field, label_field}
 use Rattle.job.specs.Questions.{state_ok}
 use Rattle.job.specs.declared.refusal.Refusal.TheVariants.{MalformedLine}
 use Rattle.line_reader.specs.LinesRead.{lines_of_states}
-use Rattle.line_reader.proofs.LineLaws.{none_read, line_read, stopped, all_read, right_none, right_few, right_next}
+use Rattle.line_reader.proofs.LineLaws.{none_read, so_many, line_read, stopped, all_read, right_none, right_few, right_next}
 use Rattle.line_reader.proofs.states.read_states.Goals as goal
 
 pub loop-s-init : goal.loop-s-init
-loop-s-init c = none_read (lines_of_states c.args.text.now c.args.h) 0 c.args.states.now (omega (arith, c.told-states)) (right_none _)
+loop-s-init c = none_read (lines_of_states c.args.text.now c.args.h) 0 _ c.clear.ensures (right_none _)
 
 pub returns-in_err-owner : goal.returns-in_err-owner
 unfolding state_at
@@ -22,10 +22,13 @@ returns-in_err-owner c =
     let l = c.loop-s in
     let read : line_numbers t (21 + 11 * l.s) 2 ≡ None = grind arith in
     let why : p.0 ≡ MalformedLine (2 + l.s) = grind arith in
-    rw p.1 (stopped (lines_of_states t c.args.h) l.s l.right l.state-items l.invariant _ _ p.0 (omega arith) (line_malformed t _ 2 read) why)
+    rw p.1 (stopped (lines_of_states t c.args.h) l.s l.right l.states.items l.invariant p.0 (omega arith) (line_malformed t _ 2 read) why)
 
 pub right_after-right-requires : goal.right_after-right-requires
 right_after-right-requires c = omega (arith, right_few (state_ok c.args.text.now) c.loop-s.s c.loop-s.right c.loop-s.invariant.kept_is)
+
+pub push-requires : goal.push-requires
+push-requires c = omega (arith, so_many (lines_of_states c.args.text.now c.args.h) _ _ _ c.loop-s.invariant, c.requires.states_to)
 
 pub loop-s-preserved : goal.loop-s-preserved
 unfolding state_at owner_field label_field state_ok
@@ -38,9 +41,9 @@ loop-s-preserved c =
     let owner : owner_field t l.s ≡ get_or ns 0 0 = sym (line_first t at 2 ns read (lit< tt)) in
     let label : label_field t l.s ≡ get_or ns 1 0 = sym (line_number t at 2 ns read 1 (lit< tt)) in
     let is_right : c.is_state.result ≡ state_ok t l.s = c.is_state.ensures ∙ rw (owner, label, c.requires.nodes_are) refl in
-    line_read (lines_of_states t c.args.h) l.s l.right l.state-items l.invariant _ _ (omega arith) (line_formed t at 2 ns read)
-    (right_next (state_ok t) l.s _ _ _ l.invariant.kept_is is_right c.right_after-right.ensures) (rw (owner, label) refl)
+    line_read (lines_of_states t c.args.h) l.s l.right l.states.items l.invariant _ _ _ (line_formed t at 2 ns read)
+    (right_next (state_ok t) l.s _ _ _ l.invariant.kept_is is_right c.right_after-right.ensures) c.push.ensures.items (rw (owner, label) refl)
 
 pub returns : goal.returns
 returns c =
-    let l = c.loop-s in all_read (lines_of_states c.args.text.now c.args.h) l.s l.right l.state-items l.invariant _ (omega arith)
+    let l = c.loop-s in all_read (lines_of_states c.args.text.now c.args.h) l.s l.right l.states.items l.invariant (omega arith)

@@ -4,4 +4,4 @@ use Rattle.line_reader.proofs.LineLaws.{SoFar}
 use Rattle.line_reader.proofs.states.read_states.Given as goal
 
 abbrev pub invariant-loop-s : goal.invariant-loop-s
-invariant-loop-s l = SoFar (lines_of_states l.text l.h) l.s l.right l.state-items
+invariant-loop-s l = SoFar (lines_of_states l.text l.h) l.s l.right l.states.items

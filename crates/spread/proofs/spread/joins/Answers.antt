@@ -9,8 +9,9 @@ overflow_sub-result c =
 
 pub returns-then-all : goal.returns-then-all
 returns-then-all c =
-    joins_all _ _ _ _ _ _ _ (may_number _ c.ne.ensures c.if-ne.false) c.if-all.true
-    c.first_edge-then-all.ensures.0 c.first_edge.ensures.0
+    rw c.from.ensures
+    (joins_all _ _ _ _ _ _ _ (may_number _ c.ne.ensures c.if-ne.false) c.if-all.true
+    c.first_edge-then-all.ensures.0 c.first_edge.ensures.0)
 
 pub returns : goal.returns
 returns c = joins_some _ _ _ _ (may_number _ c.ne.ensures c.if-ne.false) c.if-all.false

@@ -8,7 +8,7 @@ use Rattle.spread.proofs.Worklist.{left}
 use Rattle.spread.proofs.spread.spread.Given as goal
 
 abbrev pub invariant-loop-t : goal.invariant-loop-t
-invariant-loop-t l = (told : ℕ → Bool) × Spreading (job_of l.m) l.n l.all (numbers l.initial.marks) told l.list
+invariant-loop-t l = (told : ℕ → Bool) × Spreading (job_of l.m) l.n l.all (numbers l.initial.marks) told (numbers l.marks) l.list
 
 abbrev pub decreases-loop-t : goal.decreases-loop-t
-decreases-loop-t l = left (job_of l.m) l.n l.list
+decreases-loop-t l = left (job_of l.m) l.n (numbers l.marks) l.list

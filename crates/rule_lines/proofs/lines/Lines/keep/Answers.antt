@@ -1,5 +1,7 @@
 -- `keep`: the line is there, or there is no more room, or it is written behind the others.
-use borrow.Author.Rules.{rules}
+use mathlib.Core.Path.{◌≡◌}
+use lib.ListN.{length}
+use native.Mathlib.Omega.{arith}
 use Rattle.rule_lines.proofs.HeldLaws.{keeps_found, keeps_full, keeps_new, lines_counted, one_more}
 use Rattle.rule_lines.proofs.lines.Lines.keep.Goals as goal
 
@@ -8,11 +10,10 @@ returns-in-Some c = let found = c.in-Some.ensures in keeps_found _ _ _ found.0 f
 
 pub returns-then-number-lt33 : goal.returns-then-number-lt33
 returns-then-number-lt33 c =
-    let l = c.self.inside in
-    let counted = lines_counted l.kept l.count _ c.self.view_is (search rules) in
-    keeps_new _ _ _ counted c.in_default.ensures _ c.if-number-lt33.true (one_more l.kept l.count _ c.self.view_is _ (search rules))
+    let counted : c.len-number.result ≡ length c.args.self.now = omega (arith, c.len-number.ensures.value, lines_counted _ _ c.self.view_is) in
+    keeps_new _ _ _ counted c.in_default.ensures _ c.if-number-lt33.true (one_more _ _ c.self.view_is _ _ c.push.ensures.items)
 
 pub returns-else-number-lt33 : goal.returns-else-number-lt33
 returns-else-number-lt33 c =
-    let counted = lines_counted c.self.inside.kept _ _ c.self.view_is (search rules) in
+    let counted : c.len-number.result ≡ length c.args.self.now = omega (arith, c.len-number.ensures.value, lines_counted _ _ c.self.view_is) in
     keeps_full _ _ _ counted c.in_default.ensures c.if-number-lt33.false

@@ -3,7 +3,7 @@ use Prim.Native.Nat.{ℕ, suc, ◌<◌}
 use mathlib.Core.Path.{◌≡◌, refl, ap, subst}
 use mathlib.Core.Bool.{Bool}
 use mathlib.Core.List.{List}
-use Rattle.std.proofs.Common.{Option, Some, None, length, rules}
+use Rattle.std.proofs.Common.{Option, Some, None, rules}
 use Rattle.job.specs.Written.{edge_count}
 use Rattle.image.specs.Denoted.{job_of}
 use Rattle.image.proofs.ImageLaws.{image_job}
@@ -24,15 +24,15 @@ loop-next-init c =
 module _ (c : In-Some) where
   abbrev At : List ℕ → (ℕ → Bool) → ℕ → Type 0
   At before told e =
-      Walking (job_of c.args.m.now) c.args.n c.args.all before told c.args.t (numbers c.loop-next.self.marks) c.loop-next.self.counts
-      c.loop-next.self.waiting.items e
+      Walking (job_of c.args.m.now) c.args.n c.args.all before told c.args.t (numbers c.loop-next.marks)
+      c.loop-next.self.counts.now c.loop-next.self.waiting e
 
   on_walk :
-      (before : List ℕ) (told : ℕ → Bool) → Taken (job_of c.args.m.now) c.args.n c.args.all before told c.args.t c.args.self.now
+      (before : List ℕ) (told : ℕ → Bool) → Taken (job_of c.args.m.now) c.args.n c.args.all before told c.args.t (numbers c.args.marks.now) c.args.self.now
       → At before told (suc c.in-Some.e)
   on_walk before told w = subst (At before told) (ap number c.in-Some.is) (c.loop-next.invariant before told w)
 
-  begun : Taken (job_of c.args.m.now) c.args.n c.args.all c.requires.taken.0 c.requires.taken.1 c.args.t c.args.self.now
+  begun : Taken (job_of c.args.m.now) c.args.n c.args.all c.requires.taken.0 c.requires.taken.1 c.args.t (numbers c.args.marks.now) c.args.self.now
   begun = c.requires.taken.2
 
   here : At c.requires.taken.0 c.requires.taken.1 (suc c.in-Some.e)
@@ -53,9 +53,8 @@ overflow_add-told c =
 pub push-requires : goal.push-requires
 push-requires c =
     let w = (goal.at.push-requires c).In-Some in
-    let room : length c.loop-next.self.waiting.items < 256 =
-    walk_room _ _ _ _ _ _ (image_job c.args.m.now) (begun w).new (here w) _ c.source-s.ensures.0 _ (may_at c.loop-next.self.marks c.source-s.result _ c.joins.ensures) c.if-joins.true
-    in search (rules, room)
+    walk_room _ _ _ _ _ _ (image_job c.args.m.now) (begun w).new (here w) _ c.source-s.ensures.0 _
+    (may_at c.loop-next.marks c.source-s.result _ c.joins.ensures) c.if-joins.true
 
 pub next_into-next-requires : goal.next_into-next-requires
 next_into-next-requires c = edge_in (goal.at.next_into-next-requires c).In-Some
@@ -65,14 +64,14 @@ loop-next-preserved c =
     λ before told w.
     let job = image_job c.args.m.now in
     let at = on_walk (goal.at.loop-next-preserved c).In-Some before told w in
-    let l = c.loop-next.self in
+    let marks = c.loop-next.marks in
     elim c.if-joins.branch [
       | then-joins v ↦
-          rw (v.self-is, v.push.ensures.items, numbers_set l.marks c.source-s.result In)
-          (walk_push _ _ _ _ _ _ job w.new at _ c.source-s.ensures.0 _ (may_at l.marks c.source-s.result _ c.joins.ensures) _ (number_told c.next_into-next.ensures.is) v.if-joins.true)
+          rw (v.marks-is, v.self-is, v.push.ensures, numbers_set marks c.source-s.result In)
+          (walk_push _ _ _ _ _ _ job w.new at _ c.source-s.ensures.0 _ (may_at marks c.source-s.result _ c.joins.ensures) _ (number_told c.next_into-next.ensures.is) v.if-joins.true)
       | else-joins v ↦
-          rw v.self-is
-          (walk_rest _ _ _ _ _ _ job w.new at _ c.source-s.ensures.0 _ (may_at l.marks c.source-s.result _ c.joins.ensures) _ (number_told c.next_into-next.ensures.is) v.if-joins.false)
+          rw (v.marks-is, v.self-is)
+          (walk_rest _ _ _ _ _ _ job w.new at _ c.source-s.ensures.0 _ (may_at marks c.source-s.result _ c.joins.ensures) _ (number_told c.next_into-next.ensures.is) v.if-joins.false)
     ]
 
 ended : (o : Option ℕ) → ((e : ℕ) → o ≡ Some e → ⊥) → number o ≡ 0

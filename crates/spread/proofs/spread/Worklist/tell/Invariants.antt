@@ -11,8 +11,8 @@ use Rattle.spread.proofs.spread.Worklist.tell.Given as goal
 abbrev pub invariant-loop-next : goal.invariant-loop-next
 invariant-loop-next l =
     (before : List ℕ) (told : ℕ → Bool)
-    → Taken (job_of l.m) l.n l.all before told l.t l.initial.self
-    → Walking (job_of l.m) l.n l.all before told l.t (numbers l.self.marks) l.self.counts l.self.waiting.items (number l.next)
+    → Taken (job_of l.m) l.n l.all before told l.t (numbers l.initial.marks) l.initial.self
+    → Walking (job_of l.m) l.n l.all before told l.t (numbers l.marks) l.self.counts.now l.self.waiting (number l.next)
 
 abbrev pub decreases-loop-next : goal.decreases-loop-next
 decreases-loop-next l = number l.next
