@@ -95,13 +95,13 @@ fn fragment_of(lines: &JobLines, n: usize, last: &[u16; 256]) -> Fragment
     Fragment { places, states }
 }
 
-// The fragments of all nodes.
+// The fragments of all eight nodes: one that the job does not have owns no state, so its fragment is empty.
 fn lay_fragments(lines: &JobLines, last: &[[u16; 256]; 8], fragments: &mut [Fragment; 8])
     requires is_job { IsJob (lines_job lines.now) }
     requires ends { (n : ℕ) → n < 8 → Ends (lines_job lines.now) n (get_or last.now n []) }
-    ensures { Fragments (lines_job lines.now) (lines_job lines.now).nodes fragments.new }
+    ensures { Fragments (lines_job lines.now) 8 fragments.new }
 {
-    for n in 0..lines.nodes {
+    for n in 0..8 {
         fragments[n] = fragment_of(lines, n, &last[n]);
     }
 }

@@ -71,8 +71,8 @@ module _ (m : Image) where
   pub place_read :
       (n s : ℕ) → n < (job_of m).nodes → s < size (job_of m) → (f : Fragment)
       → get_or (get_or m.space.now.fragments n f).places s Outside ≡ place_of (job_of m) n s
-  place_read n s l g f = (is.fragments n l f).place_at s g
+  place_read n s l g f = (is.fragments n (omega (arith, image_job.nodes)) f).place_at s g
 
   pub fragment_read :
       (n : ℕ) → n < (job_of m).nodes → (f : Fragment) → (get_or m.space.now.fragments n f).states.items ≡ fragment (job_of m) n
-  fragment_read n l f = (is.fragments n l f).listed
+  fragment_read n l f = (is.fragments n (omega (arith, image_job.nodes)) f).listed

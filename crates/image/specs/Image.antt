@@ -76,8 +76,9 @@ pub record IsFragment (J : Job) (n : ℕ) (f : Fragment) : Type 0 where
 abbrev pub Fragments : Job → ℕ → List Fragment → Type 0
 Fragments J nodes fs = (n : ℕ) → n < nodes → (past : Fragment) → IsFragment J n (get_or fs n past)
 
+-- The chains and the fragments are those of eight nodes, also where the job has fewer.
 pub record IsImage (m : Space) : Type 0 where
   pub is_job : IsJob (lines_job m.lines)
   pub runs : Runs (lines_job m.lines) (suc (size (lines_job m.lines))) m.first
   pub chains : Chains (lines_job m.lines) (edge_count (lines_job m.lines)) m.last m.next
-  pub fragments : Fragments (lines_job m.lines) (lines_job m.lines).nodes m.fragments
+  pub fragments : Fragments (lines_job m.lines) 8 m.fragments

@@ -10,7 +10,7 @@ use crate::space::Space;
 use job::subformula::Subformula;
 
 // The space is well made. (Truncated, since that a state has an edge out has a proof for each such edge.)
-#[derive(Drop)]
+#[derive(Clone, Copy)]
 pub struct Image<'a> {
     space: &'a Space,
     pub ghost well_made: { ∥ IsImage space.now ∥₁ },

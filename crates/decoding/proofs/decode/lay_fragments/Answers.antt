@@ -1,30 +1,26 @@
 -- `lay_fragments`: the nodes passed so far have their fragments.
-use mathlib.Core.Path.{refl, sym, ◌∙◌, subst}
+use mathlib.Core.Path.{sym, ◌∙◌, subst}
 use native.Mathlib.Omega.{arith}
 use borrow.Author.Count.{below_none, below_more}
 use lib.ListN.{length-set}
 use lib.Seq.{get_or-set_same, get_or-set_other}
 use Rattle.image.specs.Lines.{lines_job}
 use Rattle.image.specs.Image.{IsFragment}
-use Rattle.image.proofs.LinesLaws.{nodes_read}
 use Rattle.decoding.proofs.decode.lay_fragments.Goals as goal
 
 pub loop-n-init : goal.loop-n-init
-loop-n-init c =
-    let w = nodes_read c.args.lines.now c.requires.is_job _ refl in
-    ((w.0, w.2), c.told-fragments, below_none _)
+loop-n-init c = (c.told-fragments, below_none _)
 
 pub loop-n-preserved : goal.loop-n-preserved
 loop-n-preserved c =
     let l = c.loop-n in
     let J = lines_job c.args.lines.now in
     let f = c.fragment_of.result in (
-      l.invariant.0,
-      length-set l.fragments l.n f ∙ l.invariant.1,
+      length-set l.fragments l.n f ∙ l.invariant.0,
       below_more _ l.n
-          (λ n g past. subst (IsFragment J n) (sym (get_or-set_other l.fragments l.n n f past (λ q. omega arith))) (l.invariant.2 n g past))
-          (λ past. subst (IsFragment J l.n) (sym (get_or-set_same l.fragments l.n f past (omega (arith, l.invariant.0, l.invariant.1)))) c.fragment_of.ensures),
+          (λ n g past. subst (IsFragment J n) (sym (get_or-set_other l.fragments l.n n f past (λ q. omega arith))) (l.invariant.1 n g past))
+          (λ past. subst (IsFragment J l.n) (sym (get_or-set_same l.fragments l.n f past (omega (arith, l.invariant.0)))) c.fragment_of.ensures),
     )
 
 pub returns : goal.returns
-returns c = λ n g past. c.loop-n.invariant.2 n (omega (arith, c.loop-n.invariant.0)) past
+returns c = λ n g past. c.loop-n.invariant.1 n (omega arith) past

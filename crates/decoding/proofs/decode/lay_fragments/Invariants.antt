@@ -1,5 +1,4 @@
 -- `lay_fragments`: the nodes passed so far have their fragments.
-use Prim.Native.Nat.{◌≤◌}
 use mathlib.Core.Path.{◌≡◌}
 use lib.ListN.{length}
 use Rattle.image.specs.Lines.{lines_job}
@@ -7,5 +6,4 @@ use Rattle.image.specs.Image.{Fragments}
 use Rattle.decoding.proofs.decode.lay_fragments.Given as goal
 
 abbrev pub invariant-loop-n : goal.invariant-loop-n
-invariant-loop-n l =
-    ((l.lines.nodes ≡ (lines_job l.lines).nodes) × (l.lines.nodes ≤ 8)) × (length l.fragments ≡ 8) × Fragments (lines_job l.lines) l.n l.fragments
+invariant-loop-n l = (length l.fragments ≡ 8) × Fragments (lines_job l.lines) l.n l.fragments
