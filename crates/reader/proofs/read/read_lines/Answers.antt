@@ -1,12 +1,12 @@
 -- `read_lines`: the first line that is malformed, or what questions 5 to 8 come to behind the last line.
-use Rattle.std.proofs.Common.{◌∙◌, ap, arith}
+use Rattle.std.proofs.Common.{◌∙◌, ap, subst, arith}
 use Rattle.std.proofs.lemmas.Result.{err_from_is_err_and}
 use Rattle.law.specs.Lists.{tab}
 use Rattle.job.specs.Read.{read_told}
 use Rattle.job.specs.Leaves.{Fits}
 use Rattle.job.proofs.LayoutLaws.{head_fits}
 use Rattle.job.proofs.ReadLaws.{read_head_refused}
-use Rattle.line_reader.specs.LinesRead.{lines_of_states, lines_of_edges, lines_of_subformulas}
+use Rattle.line_reader.specs.LinesRead.{Told, lines_of_states, lines_of_edges, lines_of_subformulas}
 use Rattle.reader.proofs.ReaderLaws.{refuses, states_placed, edges_placed, formulas_placed, askable, lines_answered}
 use Rattle.reader.proofs.JobLaws.{refused_read, job_read}
 use Rattle.reader.proofs.read.read_lines.Goals as goal
@@ -29,7 +29,7 @@ returns-in_err-states c =
     let t = c.args.text.now in
     let h = c.in_ok-h.h in
     let fits = fits_here (goal.at.returns-in_err-states c).In_ok-h in
-    let told = c.in_err-states.ensures.told in
+    let told = subst (Told (lines_of_states t h)) c.in_err-states.was c.read_states.ensures.told in
     rw p.1 (refused_read t _ _ (refuses t h fits (lines_of_states t h) _ (states_placed t h fits) _ told.0 (p.2 ∙ told.1)))
 
 pub returns-in_err-kept : goal.returns-in_err-kept
@@ -39,7 +39,7 @@ returns-in_err-kept c =
     let h = c.in_ok-h.h in
     let fits = fits_here (goal.at.returns-in_err-kept c).In_ok-h in
     let placed = edges_placed t h fits c.in_ok-states.ensures.told.0 in
-    let told = c.in_err-kept.ensures.told in
+    let told = subst (Told (lines_of_edges t h)) c.in_err-kept.was c.read_edges.ensures.told in
     rw p.1 (refused_read t _ _ (refuses t h fits (lines_of_edges t h) _ placed _ told.0 (p.2 ∙ told.1)))
 
 pub returns-in_err-formulas : goal.returns-in_err-formulas
@@ -49,7 +49,7 @@ returns-in_err-formulas c =
     let h = c.in_ok-h.h in
     let fits = fits_here (goal.at.returns-in_err-formulas c).In_ok-h in
     let placed = formulas_placed t h fits c.in_ok-states.ensures.told.0 c.in_ok-kept.ensures.told.0 in
-    let told = c.in_err-formulas.ensures.told in
+    let told = subst (Told (lines_of_subformulas t h)) c.in_err-formulas.was c.read_formulas.ensures.told in
     rw p.1 (refused_read t _ _ (refuses t h fits (lines_of_subformulas t h) _ placed _ told.0 (p.2 ∙ told.1)))
 
 pub ask_lines-requires : goal.ask_lines-requires
