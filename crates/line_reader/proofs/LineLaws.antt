@@ -14,7 +14,6 @@ use Rattle.law.proofs.Bounded.{first_fails, first_none_fails, first_le}
 use Rattle.law.proofs.Lists.{tab_length, tab_more}
 use Rattle.layout.specs.Lines.{right_after}
 use Rattle.layout.proofs.LinesLaws.{right_first}
-use Rattle.job.specs.declared.refusal.Refusal.{Refusal}
 use Rattle.job.specs.declared.refusal.Refusal.TheVariants.{MalformedLine}
 use Rattle.line_reader.specs.LinesRead.{Lines, formed_lines, LinesRead, right_lines}
 
@@ -48,11 +47,12 @@ module _ {L K : Type 0} (lines : Lines L K) where
         }
 
     pub stopped :
-        (why : Refusal) → n < lines.count → lines.is_formed n ≡ false → why ≡ MalformedLine (lines.number + n) → LinesRead lines m (Err why)
-    stopped why l f e =
+        (line : ℕ) → line ≡ lines.number + n → n < lines.count → lines.is_formed n ≡ false
+        → LinesRead lines m (Err (record { why = MalformedLine line; kept = kept }))
+    stopped line is l f =
         let at : formed_lines lines ≡ n = first_fails lines.is_formed lines.count n l so.formed_all f in
         record {
-          told = (omega (arith, at), e ∙ ap (λ k. MalformedLine (lines.number + k)) (sym at));
+          told = (omega (arith, at), ap MalformedLine (omega (arith, is, at)), so.kept_is ∙ ap lines.kept_after (sym at));
           laid = so.laid ∙ ap (tab lines.says) (sym at);
         }
 

@@ -1,5 +1,5 @@
--- What the loops over the lines of a text promise: the first line that is malformed or what their questions are answered from, and that the lent
--- vector holds what the lines before it say. Assumes nothing.
+-- What the loops over the lines of a text promise: what their questions are answered from, with the first line that is malformed if there is one, and
+-- that the lent vector holds what the lines before it say. Assumes nothing.
 use Rattle.std.specs.Prelude.{ℕ, ◌+◌, ◌%◌, ◌<◌, ◌≡◌, Bool, not, List, Result, Ok, Err}
 use Rattle.law.specs.Bounded.{first}
 use Rattle.law.specs.Lists.{tab}
@@ -8,13 +8,13 @@ use Rattle.job.specs.Layout as layout
 use Rattle.job.specs.Formula as formula
 use Rattle.job.specs.Questions.{state_ok, formula_ok}
 use Rattle.job.specs.declared.reading.Header.{Header}
-use Rattle.job.specs.declared.refusal.Refusal.{Refusal}
 use Rattle.job.specs.declared.refusal.Refusal.TheVariants.{MalformedLine}
 use Rattle.job.specs.declared.subformula.Subformula.{Subformula}
 use Rattle.edge_pass.specs.EdgePass.{kept_after}
 use Rattle.edge_pass.specs.declared.Kept.{Kept}
 use Rattle.image.specs.declared.job_lines.State.{State}
 use Rattle.image.specs.declared.job_lines.Edge.{Edge}
+use Rattle.line_reader.specs.declared.stopped.Stopped.{Stopped}
 
 -- The lines of one kind, each of which says an L; a K is kept of those that are read.
 pub record Lines (L K : Type 0) : Type 0 where
@@ -32,13 +32,16 @@ module _ {L K : Type 0} (lines : Lines L K) where
   abbrev pub formed_lines : ℕ
   formed_lines = first (λ i. not (lines.is_formed i)) lines.count
 
-  -- Every one is well-formed, and this is kept after the last; or the first that is not is reported.
-  abbrev pub Told : Result K Refusal → Type 0
+  -- Every one is well-formed, and this is kept after the last; or the first that is not is reported, with what is kept after those before it.
+  abbrev pub Told : Result K (Stopped K) → Type 0
   Told (Ok kept) = (formed_lines ≡ lines.count) × (kept ≡ lines.kept_after lines.count)
-  Told (Err why) = (formed_lines < lines.count) × (why ≡ MalformedLine (lines.number + formed_lines))
+  Told (Err stopped) =
+      (formed_lines < lines.count)
+      × (stopped.why ≡ MalformedLine (lines.number + formed_lines))
+      × (stopped.kept ≡ lines.kept_after formed_lines)
 
   -- What the lines say is laid, as far as every one is well-formed.
-  pub record LinesRead (m : List L) (r : Result K Refusal) : Type 0 where
+  pub record LinesRead (m : List L) (r : Result K (Stopped K)) : Type 0 where
     pub told : Told r
     pub laid : m ≡ tab lines.says formed_lines
 

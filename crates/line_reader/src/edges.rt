@@ -2,6 +2,7 @@
 ghost use Rattle.job.specs.Leaves.{Fits};
 ghost use Rattle.line_reader.specs.LinesRead.{lines_of_edges, LinesRead};
 
+use crate::stopped::Stopped;
 use arrayvec::ArrayVec;
 use edge_pass::Kept;
 use image::job_lines::Edge;
@@ -9,9 +10,13 @@ use job::reading::Header;
 use job::refusal::Refusal;
 use text::fields::read_line;
 
-// What the pass keeps after the last edge line, where every one is well-formed.
+// What the pass keeps after the last edge line, or after the last before the first that is malformed.
 #[inline(always)]
-pub fn read_edges(text: &[u8], h: Header, edges: &mut ArrayVec<Edge, 2048>) -> Result<Kept, Refusal>
+pub fn read_edges(
+    text: &[u8],
+    h: Header,
+    edges: &mut ArrayVec<Edge, 2048>,
+) -> Result<Kept, Stopped<Kept>>
     requires { Fits text.now h }
     ensures { LinesRead (lines_of_edges text.now h) edges.new.items result }
 {
@@ -19,8 +24,11 @@ pub fn read_edges(text: &[u8], h: Header, edges: &mut ArrayVec<Edge, 2048>) -> R
     let mut kept = Kept::start(h.states);
     for e in 0..h.edges {
         let line = h.states + e;
-        let malformed = Refusal::MalformedLine(2 + line);
-        let [source, target] = read_line::<2>(text, 21 + 11 * line).ok_or(malformed)?;
+        let Some(numbers) = read_line::<2>(text, 21 + 11 * line) else {
+            let why = Refusal::MalformedLine(2 + line);
+            return Err(Stopped { why, kept });
+        };
+        let [source, target] = numbers;
         // question 6 refuses a number that is too large for its field
         edges.push(Edge {
             source: (source % 256) as u8,

@@ -3,6 +3,7 @@ ghost use Rattle.std.specs.Prelude.{◌≡◌, ◌&&◌, ltb, leb};
 ghost use Rattle.job.specs.Leaves.{Fits};
 ghost use Rattle.line_reader.specs.LinesRead.{lines_of_states, LinesRead};
 
+use crate::stopped::Stopped;
 use arrayvec::ArrayVec;
 use image::job_lines::State;
 use job::reading::Header;
@@ -16,21 +17,24 @@ fn is_state(nodes: usize, owner: usize, label: usize) -> bool
     owner < nodes && label <= 65535
 }
 
-// How many state lines are right before the first that is not, where every one is well-formed.
+// How many state lines are right before the first that is not, of all or of those before the first that is malformed.
 #[inline(always)]
 pub fn read_states(
     text: &[u8],
     h: Header,
     states: &mut ArrayVec<State, 256>,
-) -> Result<usize, Refusal>
+) -> Result<usize, Stopped<usize>>
     requires { Fits text.now h }
     ensures { LinesRead (lines_of_states text.now h) states.new.items result }
 {
     states.clear();
     let mut right = 0;
     for s in 0..h.states {
-        let malformed = Refusal::MalformedLine(2 + s);
-        let [owner, label] = read_line::<2>(text, 21 + 11 * s).ok_or(malformed)?;
+        let Some(numbers) = read_line::<2>(text, 21 + 11 * s) else {
+            let why = Refusal::MalformedLine(2 + s);
+            return Err(Stopped { why, kept: right });
+        };
+        let [owner, label] = numbers;
         // question 5 refuses a number that is too large for its field
         states.push(State {
             owner: (owner % 256) as u8,

@@ -20,27 +20,25 @@ use Rattle.std.proofs.Common.{Result, Ok, Err}
 use Rattle.job.proofs.QuestionLaws.{refused_not_accepted}
 use Rattle.job.proofs.Asked.{Passed}
 use Rattle.job.proofs.ReadLaws.{read_passed}
-use Rattle.edge_pass.specs.declared.Kept.{Kept}
 use Rattle.image.specs.Lines.{lines_job, ends}
 use Rattle.image.specs.declared.job_lines.State.{State}
 use Rattle.image.specs.declared.job_lines.Edge as line
 use Rattle.image.specs.declared.job_lines.JobLines.{JobLines}
-use Rattle.line_reader.specs.LinesRead.{LinesRead, lines_of_states, lines_of_edges, lines_of_subformulas}
+use Rattle.line_reader.specs.LinesRead.{lines_of_states, lines_of_edges, lines_of_subformulas}
 use Rattle.reader.specs.JobRead.{JobRead}
 
 -- what the lines say, as a list of what each says
 says_are :
-    {L A : Type 0} (g : L → A) (says : ℕ → L) (list : List L) (f : ℕ → A) (b n k : ℕ) (d : A)
-    → list ≡ tab says b → b ≡ n → n ≡ k → ((i : ℕ) → i < n → g (says i) ≡ f i) → map g list ≡ tab f k
-says_are g says list f b n k d laid all e same =
-    ap (map g) laid ∙ map_tab g says b ∙ ap (tab (λ i. g (says i))) all ∙ tab_same (λ i. g (says i)) f n d same ∙ ap (tab f) e
+    {L A : Type 0} (g : L → A) (says : ℕ → L) (list : List L) (f : ℕ → A) (n k : ℕ) (d : A)
+    → list ≡ tab says n → n ≡ k → ((i : ℕ) → i < n → g (says i) ≡ f i) → map g list ≡ tab f k
+says_are g says list f n k d laid e same =
+    ap (map g) laid ∙ map_tab g says n ∙ tab_same (λ i. g (says i)) f n d same ∙ ap (tab f) e
 
 module _
     (t : Text) (h : Header) (fits : Fits t h) (states : ArrayVec State) (edges : ArrayVec line.Edge) (formula : ArrayVec Subformula)
-    (s : ℕ) (k : Kept) (f : ℕ)
-    (state : LinesRead (lines_of_states t h) states.items (Ok s))
-    (edge : LinesRead (lines_of_edges t h) edges.items (Ok k))
-    (subformulas : LinesRead (lines_of_subformulas t h) formula.items (Ok f))
+    (state : states.items ≡ tab (lines_of_states t h).says h.states)
+    (edge : edges.items ≡ tab (lines_of_edges t h).says h.edges)
+    (subformulas : formula.items ≡ tab (lines_of_subformulas t h).says h.subformulas)
   where
     abbrev m : JobLines
     m = record { nodes = h.nodes; states = states; edges = edges; formula = formula }
@@ -57,17 +55,17 @@ module _
 
         labels : (lines_job m).structure.labels ≡ (decode t).structure.labels
         labels =
-            says_are _ _ _ _ _ h.states (layout.states t) 0 state.laid state.told.0 (sym fits.states_are)
+            says_are _ _ _ _ h.states (layout.states t) 0 state (sym fits.states_are)
             (λ s l. mod-eq_of_lt (omega (arith, passed.labels s (omega (arith, fits.states_are)))))
 
         owners : (lines_job m).owners ≡ (decode t).owners
         owners =
-            says_are _ _ _ _ _ h.states (layout.states t) 0 state.laid state.told.0 (sym fits.states_are)
+            says_are _ _ _ _ h.states (layout.states t) 0 state (sym fits.states_are)
             (λ s l. mod-eq_of_lt (omega (arith, passed.owners s (omega (arith, fits.states_are)), fits.nodes_are, fits.nodes_to)))
 
         edges_are : (lines_job m).structure.edges ≡ (decode t).structure.edges
         edges_are =
-            says_are ends _ _ _ _ h.edges (layout.edges t) no_edge edge.laid edge.told.0 (sym fits.edges_are)
+            says_are ends _ _ _ h.edges (layout.edges t) no_edge edge (sym fits.edges_are)
             (λ e l.
             let (from, to) = passed.ends e (omega (arith, fits.edges_are)) in
             let source : layout.source_field t e % 256 ≡ layout.source_field t e = mod-eq_of_lt (omega (arith, fits.states_are, fits.states_to)) in
@@ -75,7 +73,7 @@ module _
             λ i. record { from = source i; to = target i })
 
         formulas : (lines_job m).formula ≡ (decode t).formula
-        formulas = subformulas.laid ∙ ap (tab _) (subformulas.told.0 ∙ sym fits.subformulas_are)
+        formulas = subformulas ∙ ap (tab _) (sym fits.subformulas_are)
 
     pub job_read : (r : Result Header Refusal) → read_told r ≡ read_answer t → JobRead t m r
     job_read r told = record { told = told; laid = λ g e. says g (ap read_told (sym e) ∙ told) }

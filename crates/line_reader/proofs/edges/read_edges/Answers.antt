@@ -1,13 +1,11 @@
 -- `read_edges`: the edge lines passed so far are well-formed and laid, and what is kept is the pass's after so many lines.
 use Rattle.std.proofs.Common.{◌≡◌, ◌*◌, ◌+◌, Some, None, refl, sym, ◌∙◌, ap, get_or, arith}
-use Rattle.std.proofs.lemmas.Result.{err_from_is_err_and}
 use native.Mathlib.Numerals.{add-one}
 use lib.Dec.{lit<}
 use Rattle.text.specs.Fields.{line_numbers}
 use Rattle.text.proofs.FieldsLaws.{line_malformed, line_formed, line_first, line_number}
 use Rattle.job.specs.Layout.{state_at, edge_at, source_field, target_field}
 use Rattle.job.specs.Questions.{edge_ok}
-use Rattle.job.specs.declared.refusal.Refusal.TheVariants.{MalformedLine}
 use Rattle.edge_pass.specs.EdgePass.{start, after, kept_after}
 use Rattle.edge_pass.proofs.EdgePassLaws.{kept_lines, kept_right}
 use Rattle.line_reader.specs.LinesRead.{lines_of_edges}
@@ -20,16 +18,14 @@ loop-e-init c =
     none_read (lines_of_edges c.args.text.now c.args.h) _ _ c.clear.ensures
     (c.start-kept.ensures ∙ ap start (sym c.requires.states_are))
 
-pub returns-in_err-source : goal.returns-in_err-source
+pub returns-in_default : goal.returns-in_default
 unfolding state_at edge_at
-returns-in_err-source c =
-    let p = err_from_is_err_and c.from_residual.result c.from_residual.ensures.1 in
+returns-in_default c =
     let t = c.args.text.now in
     let l = c.loop-e in
-    let read : line_numbers t (21 + 11 * (c.args.h.states + l.e)) 2 ≡ None = grind arith in
+    let read : line_numbers t (21 + 11 * (c.args.h.states + l.e)) 2 ≡ None = sym c.read_line.ensures.is ∙ c.in_default.is in
     let here : line_numbers t (edge_at t l.e) 2 ≡ None = rw c.requires.states_are read in
-    let why : p.0 ≡ MalformedLine (2 + c.args.h.states + l.e) = grind arith in
-    rw p.1 (stopped (lines_of_edges t c.args.h) l.e l.kept l.edges.items l.invariant p.0 (omega arith) (line_malformed t _ 2 here) why)
+    stopped (lines_of_edges t c.args.h) l.e l.kept l.edges.items l.invariant _ (omega arith) (omega arith) (line_malformed t _ 2 here)
 
 pub after-requires : goal.after-requires
 after-requires c =
@@ -47,9 +43,9 @@ unfolding state_at edge_at source_field target_field kept_after
 loop-e-preserved c =
     let t = c.args.text.now in
     let l = c.loop-e in
-    let ns = c.in_ok-source.field-0 in
+    let ns = c.in-Some.numbers in
     let at = edge_at t l.e in
-    let read : line_numbers t (21 + 11 * (c.args.h.states + l.e)) 2 ≡ Some ns = grind arith in
+    let read : line_numbers t (21 + 11 * (c.args.h.states + l.e)) 2 ≡ Some ns = sym c.read_line.ensures.is ∙ c.in-Some.is in
     let here : line_numbers t at 2 ≡ Some ns = rw c.requires.states_are read in
     let source : source_field t l.e ≡ get_or ns 0 0 = sym (line_first t at 2 ns here (lit< tt)) in
     let target : target_field t l.e ≡ get_or ns 1 0 = sym (line_number t at 2 ns here 1 (lit< tt)) in

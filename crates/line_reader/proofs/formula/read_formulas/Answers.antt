@@ -1,6 +1,5 @@
 -- `read_formulas`: the subformula lines passed so far are well-formed and laid.
 use Rattle.std.proofs.Common.{◌≡◌, ◌*◌, ◌+◌, Option, Some, None, is_some, unwrap_or, refl, sym, ◌∙◌, ap, get_or, arith}
-use Rattle.std.proofs.lemmas.Result.{err_from_is_err_and}
 use lib.Dec.{lit<}
 use Rattle.text.specs.Fields.{line_numbers}
 use Rattle.text.proofs.FieldsLaws.{line_malformed, line_formed, line_first, line_number}
@@ -9,7 +8,6 @@ use Rattle.job.specs.Formula as spec
 use Rattle.job.specs.Questions.{formula_ok}
 use Rattle.job.specs.declared.subformula.Subformula.{Subformula}
 use Rattle.job.specs.declared.subformula.Subformula.TheVariants.{Atom}
-use Rattle.job.specs.declared.refusal.Refusal.TheVariants.{MalformedLine}
 use Rattle.line_reader.specs.LinesRead.{lines_of_subformulas}
 use Rattle.line_reader.proofs.LineLaws.{none_read, so_many, line_read, stopped, all_read, right_none, right_few, right_next}
 use Rattle.line_reader.proofs.formula.read_formulas.Goals as goal
@@ -17,17 +15,15 @@ use Rattle.line_reader.proofs.formula.read_formulas.Goals as goal
 pub loop-k-init : goal.loop-k-init
 loop-k-init c = none_read (lines_of_subformulas c.args.text.now c.args.h) 0 _ c.clear.ensures (right_none _)
 
-pub returns-in_err-kind : goal.returns-in_err-kind
+pub returns-in_default : goal.returns-in_default
 unfolding state_at subformula_at
-returns-in_err-kind c =
-    let p = err_from_is_err_and c.from_residual.result c.from_residual.ensures.1 in
+returns-in_default c =
     let t = c.args.text.now in
     let h = c.args.h in
     let l = c.loop-k in
-    let read : line_numbers t (21 + 11 * (h.states + h.edges) + 16 * l.k) 3 ≡ None = grind arith in
+    let read : line_numbers t (21 + 11 * (h.states + h.edges) + 16 * l.k) 3 ≡ None = sym c.read_line.ensures.is ∙ c.in_default.is in
     let here : line_numbers t (subformula_at t l.k) 3 ≡ None = rw (c.requires.states_are, c.requires.edges_are) read in
-    let why : p.0 ≡ MalformedLine (2 + (h.states + h.edges) + l.k) = grind arith in
-    rw p.1 (stopped (lines_of_subformulas t h) l.k l.right l.formula.items l.invariant p.0 (omega arith) (line_malformed t _ 3 here) why)
+    stopped (lines_of_subformulas t h) l.k l.right l.formula.items l.invariant _ (omega arith) (omega arith) (line_malformed t _ 3 here)
 
 pub right_after-right-requires : goal.right_after-right-requires
 right_after-right-requires c = omega (arith, right_few (formula_ok c.args.text.now) c.loop-k.k c.loop-k.right c.loop-k.invariant.kept_is)
@@ -51,9 +47,9 @@ loop-k-preserved c =
     let t = c.args.text.now in
     let h = c.args.h in
     let l = c.loop-k in
-    let ns = c.in_ok-kind.field-0 in
+    let ns = c.in-Some.numbers in
     let at = subformula_at t l.k in
-    let read : line_numbers t (21 + 11 * (h.states + h.edges) + 16 * l.k) 3 ≡ Some ns = grind arith in
+    let read : line_numbers t (21 + 11 * (h.states + h.edges) + 16 * l.k) 3 ≡ Some ns = sym c.read_line.ensures.is ∙ c.in-Some.is in
     let here : line_numbers t at 3 ≡ Some ns = rw (c.requires.states_are, c.requires.edges_are) read in
     let kind : kind_field t l.k ≡ get_or ns 0 0 = sym (line_first t at 3 ns here (lit< tt)) in
     let left : left_field t l.k ≡ get_or ns 1 0 = sym (line_number t at 3 ns here 1 (lit< tt)) in
