@@ -20,7 +20,7 @@ pub trait Own<const N: usize> {
     fn own_numbers(self) -> [usize; N]
         ensures { result ≡ own self };
 
-    // So many can be counted: a generic array of them owes that its bytes can.
+    // What an array of N numbers asks where it is a slice, said once here and by no caller.
     ghost few: { N < 65536 };
 }
 

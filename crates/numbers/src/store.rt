@@ -28,7 +28,7 @@ pub fn put_all(out: &mut [usize], at: usize, numbers: &[usize])
     }
 }
 
-// Stores an answer's numbers from the front on. It asks of N what any array of numbers does, that its bytes can be counted.
+// Stores an answer's numbers from the front on.
 pub fn store<T: Own<N>, const N: usize>(out: &mut [usize], answer: Result<T, Refusal>)
     ensures { out.new ≡ stored out.old (numbers (told T.own N answer)) }
 {
