@@ -1,5 +1,6 @@
 // All numbers of a call's answer, from its result.
-ghost use Rattle.std.specs.Prelude.{◌≡◌, ◌++◌, ℕ, List};
+ghost use Rattle.std.specs.Prelude.{◌≡◌, ◌<◌, ◌++◌, ℕ, List};
+ghost use Rattle.std.proofs.Common.{rules};
 ghost use Rattle.job.specs.Answer.{numbers};
 ghost use Rattle.job.specs.Read.{header_numbers};
 ghost use Rattle.job.specs.Refused.{told};
@@ -18,10 +19,15 @@ pub trait Own<const N: usize> {
 
     fn own_numbers(self) -> [usize; N]
         ensures { result ≡ own self };
+
+    // What an array of N numbers asks where it is a slice, said once here and by no caller.
+    ghost few: { N < 65536 };
 }
 
 impl Own<0> for () {
     ghost own = { none };
+
+    ghost few = { Prim.search rules };
 
     fn own_numbers(self) -> [usize; 0] {
         []
@@ -31,6 +37,8 @@ impl Own<0> for () {
 impl Own<1> for usize {
     ghost own = { one };
 
+    ghost few = { Prim.search rules };
+
     fn own_numbers(self) -> [usize; 1] {
         [self]
     }
@@ -38,6 +46,8 @@ impl Own<1> for usize {
 
 impl Own<1> for u8 {
     ghost own = { one };
+
+    ghost few = { Prim.search rules };
 
     fn own_numbers(self) -> [usize; 1] {
         [usize::from(self)]
@@ -47,6 +57,8 @@ impl Own<1> for u8 {
 impl Own<4> for Header {
     ghost own = { header_numbers };
 
+    ghost few = { Prim.search rules };
+
     fn own_numbers(self) -> [usize; 4] {
         [self.states, self.edges, self.subformulas, self.nodes]
     }
@@ -54,6 +66,8 @@ impl Own<4> for Header {
 
 impl Own<3> for Message {
     ghost own = { message_numbers };
+
+    ghost few = { Prim.search rules };
 
     fn own_numbers(self) -> [usize; 3] {
         [self.state, self.subformula, usize::from(self.value)]
@@ -63,6 +77,8 @@ impl Own<3> for Message {
 impl Own<2> for Closing {
     ghost own = { closing_numbers };
 
+    ghost few = { Prim.search rules };
+
     fn own_numbers(self) -> [usize; 2] {
         [self.subformula, self.filled]
     }
@@ -70,6 +86,8 @@ impl Own<2> for Closing {
 
 impl Own<3> for Outcome {
     ghost own = { outcome_numbers };
+
+    ghost few = { Prim.search rules };
 
     fn own_numbers(self) -> [usize; 3] {
         [usize::from(self.verdict), self.rounds, self.cells]

@@ -1,5 +1,5 @@
 // Storing an answer's numbers into a lent array, whatever its length.
-ghost use Rattle.std.specs.Prelude.{◌≡◌, ◌<◌, set};
+ghost use Rattle.std.specs.Prelude.{◌≡◌, set};
 ghost use Rattle.job.specs.Answer.{numbers};
 ghost use Rattle.job.specs.Refused.{told};
 ghost use Rattle.numbers.specs.Stored.{stored, stored_from};
@@ -28,9 +28,8 @@ pub fn put_all(out: &mut [usize], at: usize, numbers: &[usize])
     }
 }
 
-// Stores an answer's numbers from the front on. It asks of N what any array of numbers does, that its bytes can be counted.
+// Stores an answer's numbers from the front on.
 pub fn store<T: Own<N>, const N: usize>(out: &mut [usize], answer: Result<T, Refusal>)
-    requires { N < 65536 }
     ensures { out.new ≡ stored out.old (numbers (told T.own N answer)) }
 {
     let (front, own) = numbers_of(answer);

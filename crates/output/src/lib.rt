@@ -30,7 +30,8 @@ impl<const N: usize> Output<N> {
     }
 
     pub fn as_slice(&self) -> &[u8]
-        ensures { result.now ≡ self.now }
+        ensures bytes { result.now ≡ self.now }
+        ensures inside { length result.now ≤ N }
     {
         &self.bytes[..self.length]
     }
