@@ -6,8 +6,10 @@ use crate::lines::Lines;
 use job::subformula::Subformula;
 use rule_text::token::Operator;
 
+// What is public is not inlined: the lines that it makes would lie in the frame of `expression`, once for each bracket that is open.
 impl Lines {
     // The left operand's line, once the operator is known and before the right operand is read: `|` has it negated.
+    #[inline(never)]
     #[tactic(auto, unfolding(crate::specs::Joining::left_kept))]
     pub fn keep_left(&mut self, o: Operator, a: usize) -> usize
         ensures { KeptAs (left_kept o a self.old) result self.new }
@@ -28,6 +30,7 @@ impl Lines {
     }
 
     // The operator's own lines, behind those of both operands.
+    #[inline(never)]
     #[tactic(auto, unfolding(crate::specs::Joining::join_kept))]
     pub fn keep_joined(&mut self, o: Operator, a: usize, b: usize) -> usize
         ensures { KeptAs (join_kept o a b self.old) result self.new }

@@ -22,6 +22,8 @@ pub struct Infix<'a> {
 }
 
 // The operator that is the first token, if it is at least so strong.
+// Not inlined: what it looks at would lie in the frame of `expression`, once for each bracket that is open.
+#[inline(never)]
 pub fn first_operator(text: &[u8], least: usize) -> Option<Infix<'_>>
     ensures { Follows text.now least result }
 {

@@ -66,8 +66,8 @@ impl<'a> Reader<'a> {
         let mut left = self.prefix_form()?;
         // no iterator, since each turn reads on from where the one before has stopped
         while let Some(infix) = first_operator(self.rest, least) {
-            let a = self.lines.keep_left(infix.operator, left);
             self.rest = infix.behind;
+            let a = self.lines.keep_left(infix.operator, left);
             let b = self.expression(infix.right)?;
             left = self.lines.keep_joined(infix.operator, a, b);
         }
