@@ -2,13 +2,12 @@
 use Prim.Native.Nat.{ℕ}
 use mathlib.Core.Bool.{Bool}
 use Rattle.image.specs.Denoted.{job_of}
-use Rattle.spread.specs.Spread.{numbers}
 use Rattle.spread.specs.Underway.{Spreading}
 use Rattle.spread.proofs.Worklist.{left}
 use Rattle.spread.proofs.spread.spread.Given as goal
 
 abbrev pub invariant-loop-t : goal.invariant-loop-t
-invariant-loop-t l = (told : ℕ → Bool) × Spreading (job_of l.m) l.n l.all (numbers l.initial.marks) told (numbers l.marks) l.list
+invariant-loop-t g l = (told : ℕ → Bool) × Spreading (job_of l.m) l.n l.all (g.M.Marks.numbers l.initial.marks) told (g.M.Marks.numbers l.marks) l.list
 
 abbrev pub decreases-loop-t : goal.decreases-loop-t
-decreases-loop-t l = left (job_of l.m) l.n (numbers l.marks) l.list
+decreases-loop-t g l = left (job_of l.m) l.n (g.M.Marks.numbers l.marks) l.list
