@@ -12,10 +12,10 @@ use Rattle.cells.specs.Fragment.{in_fragment}
 use Rattle.cells.specs.Table.{Table, table_length, index, cell, inside, cells_right, fresh_table}
 use Rattle.cells.specs.Step.{step_column, step_table}
 use Rattle.cells.specs.Close.{accept_table, copy_table, close_table}
-use Rattle.cells.specs.Finish.{round}
+use Rattle.cells.specs.Finish.{round, finish}
 use Rattle.cells.proofs.Index.{index_lt, node_of_index, state_of_index}
-use Rattle.cells.proofs.Grown.{Grown, step_column_grown, step_table_grown, accept_table_grown, copy_table_grown, close_table_grown, round_grown}
-use Rattle.cells.proofs.Right.{Right, right_is, is_right, right_cell_small, fresh_right, step_column_right, step_table_right, accept_table_right, copy_table_right, close_table_right, round_right}
+use Rattle.cells.proofs.Grown.{Grown, step_column_grown, step_table_grown, accept_table_grown, copy_table_grown, close_table_grown, round_grown, finish_grown}
+use Rattle.cells.proofs.Right.{Right, right_is, is_right, right_cell_small, fresh_right, step_column_right, step_table_right, accept_table_right, copy_table_right, close_table_right, round_right, finish_right}
 
 pub record Formed (J : Job) (t : Table) : Type 0 where
   pub long : length t ≡ table_length J
@@ -64,3 +64,6 @@ module _ (J : Job) (t : Table) (formed : Formed J t) where
 
   pub round_formed : Formed J (round J t)
   round_formed = grown_formed (round J t) (round_grown J t) (round_right J t formed.right)
+
+  pub finish_formed : Formed J (finish J t).table
+  finish_formed = grown_formed (finish J t).table (finish_grown J t) (finish_right J t formed.right)

@@ -27,9 +27,9 @@ use Rattle.cells.specs.Table.{Table, index, node_of, state_of, subformula_of, ce
 use Rattle.cells.specs.SetRule.{SetRule, set_rule, smallest, largest, by_sets}
 use Rattle.cells.specs.Step.{opposite, both, next, known, column, step_column, step_table}
 use Rattle.cells.specs.Close.{is_temporal, accept_table, copy_table, smallest_open, close_table}
-use Rattle.cells.specs.Finish.{round}
+use Rattle.cells.specs.Finish.{round, finish}
 use Rattle.cells.proofs.Fill.{empty_is, is_empty_lem, fill_length, fill_filled, fill_outside, fill_new}
-use Rattle.cells.proofs.Kept.{Parts, step_table_keeps, round_keeps}
+use Rattle.cells.proofs.Kept.{Parts, step_table_keeps, round_keeps, finish_keeps}
 
 -- Question 10 as facts about bytes, and about cells.
 pub record Right (J : Job) (t : Table) : Type 0 where
@@ -211,3 +211,6 @@ module _ (J : Job) where
 
   pub round_right : (t : Table) → Right J t → Right J (round J t)
   round_right = round_keeps J KeepsRight right_parts
+
+  pub finish_right : (t : Table) → Right J t → Right J (finish J t).table
+  finish_right = finish_keeps J KeepsRight right_parts

@@ -1,8 +1,9 @@
 -- The search for the smallest open subformula, and closing it. Assumes nothing.
-use Prim.Native.Nat.{ℕ, ◌<◌}
+use Prim.Native.Nat.{ℕ, ◌<◌, ◌≤◌}
 use mathlib.Core.Path.{◌≡◌, sym, ◌∙◌, ap}
 use mathlib.Core.Bool.{Bool, true, false}
 use mathlib.Core.List.{List}
+use native.Mathlib.Omega.{arith}
 use Rattle.law.proofs.Bounded.{any_intro, any_none, first_is, first_none}
 use Rattle.job.specs.Job.{Job, size, subformula_count, subformula}
 use Rattle.job.specs.Written.{IsJob}
@@ -27,13 +28,14 @@ module _ (J : Job) (t : Table) where
   unfolding open?
   open_nowhere k = any_none (λ s. is_empty (owner_cell J t s k)) (size J)
 
-  pub smallest_open_is : (k : ℕ) → k < subformula_count J → ((j : ℕ) → j < k → open? J t j ≡ false) → open? J t k ≡ true → k ≡ smallest_open J t
+  pub smallest_open_is :
+      (k : ℕ) → k < subformula_count J → ((j : ℕ) → j < k → open? J t j ≡ false) → open? J t k ≡ true → (k ≡ smallest_open J t) × (k ≤ subformula_count J)
   unfolding smallest_open
-  smallest_open_is k l before here = sym (first_is (open? J t) (subformula_count J) k l before here)
+  smallest_open_is k l before here = (sym (first_is (open? J t) (subformula_count J) k l before here), omega arith)
 
-  pub smallest_none : ((j : ℕ) → j < subformula_count J → open? J t j ≡ false) → subformula_count J ≡ smallest_open J t
+  pub smallest_none : (k : ℕ) → k ≡ subformula_count J → ((j : ℕ) → j < k → open? J t j ≡ false) → (k ≡ smallest_open J t) × (k ≤ subformula_count J)
   unfolding smallest_open
-  smallest_none before = sym (first_none (open? J t) (subformula_count J) before)
+  smallest_none k e before = (e ∙ sym (first_none (open? J t) (subformula_count J) (λ j l. before j (omega arith))), omega arith)
 
   -- What closing fills is its value in every cell of the subformula.
   pub all_closed :

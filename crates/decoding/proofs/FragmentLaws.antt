@@ -23,6 +23,18 @@ use Rattle.image.specs.declared.space.Fragment.{Fragment}
 use Rattle.image.proofs.Places.{same_place, place_outside}
 use Rattle.image.proofs.Ranks.{count_step, state_rank}
 
+pub rank_none : (J : Job) (n : ℕ) → 0 ≡ rank J n 0
+unfolding rank count
+rank_none J n = refl
+
+pub rank_all : (J : Job) (n s : ℕ) → s ≡ size J → rank J n s ≡ fragment_size J n
+unfolding rank fragment_size
+rank_all J n s e = ap (count (in_fragment J n)) e
+
+pub rank_few : (J : Job) (n s : ℕ) → rank J n s ≤ s
+unfolding rank
+rank_few J n s = count_le (in_fragment J n) s
+
 -- The first s states have their place, and those of them that are in the fragment are listed.
 pub record ListedSoFar (J : Job) (n s : ℕ) (places : List Place) (states : List ℕ) : Type 0 where
   pub long : length places ≡ 256
@@ -34,9 +46,8 @@ unfolding rank count tab from
 listed_none J n places l = record { long = l; place_at = below_none _; listed = refl }
 
 pub listed_few : {J : Job} {n s : ℕ} {places : List Place} {states : List ℕ} → ListedSoFar J n s places states → length states ≤ s
-unfolding rank
 listed_few {J} {n} {s} so =
-    omega (arith, ap {A = List ℕ} length so.listed, tab_length (fragment_state J n) (rank J n s), count_le (in_fragment J n) s)
+    omega (arith, ap {A = List ℕ} length so.listed, tab_length (fragment_state J n) (rank J n s), rank_few J n s)
 
 pub listed_all : (J : Job) (n s : ℕ) (f : Fragment) → s ≡ size J → ListedSoFar J n s f.places f.states.items → IsFragment J n f
 unfolding rank fragment_size fragment

@@ -108,6 +108,11 @@ module _ (J : Job) (job : IsJob J) where
   run_here s e l g =
       by_order e (first_edge M s) (λ h. let stop : ⊥ = omega (arith, below_first s e h) in absurd stop) (λ h. omega arith)
 
+  -- an edge that starts below s is before it
+  pub run_later : (s e : ℕ) → e < edge_count J → edge_from M e < s → e + 1 ≤ first_edge M s
+  run_later s e l g =
+      by_order e (first_edge M s) (λ h. omega arith) (λ h. let stop : ⊥ = omega (arith, from_first s e l h) in absurd stop)
+
   pub first_up : (s : ℕ) → first_edge M s ≤ first_edge M (suc s)
   first_up s =
       by_order (first_edge M (suc s)) (first_edge M s)

@@ -126,7 +126,7 @@ module _ (J : Job) (t : Table) where
             absurd (omega arith)),
       )
 
-  node_fine :
+  pub node_fine :
       (n r : ℕ)
       → r ≡ no_number (own_questions (Call.step n) J t)
       → r ≡ 0

@@ -1,5 +1,5 @@
 -- A round, from what its parts leave: the exchange, and what close does to a settled table. Assumes nothing.
-use Prim.Native.Nat.{ℕ, ◌<◌}
+use Prim.Native.Nat.{ℕ, ◌<◌, ◌≤◌}
 use mathlib.Core.Path.{◌≡◌, sym, ◌∙◌, ap, subst}
 use mathlib.Core.Bool.{true, ◌&&◌}
 use native.Mathlib.Omega.{arith}
@@ -17,12 +17,12 @@ use Rattle.table.specs.Filling.{Leaves}
 
 module _ (J : Job) (t : Table) where
   -- What close does to a settled table.
-  pub closing_none : subformula_count J ≡ smallest_open J t → Leaves t (closing J t) t 0
+  pub closing_none : (k : ℕ) → k ≡ smallest_open J t → subformula_count J ≤ k → Leaves t (closing J t) t 0
   unfolding closing some_open
-  closing_none is =
+  closing_none k is past =
       let same : closing J t ≡ t =
       cond_false (settled J t && some_open J t) (close_table J t) t
-      (and_no_right (settled J t) (some_open J t) (le-ltb (smallest_open J t) (subformula_count J) (omega arith))) in
+      (and_no_right (settled J t) (some_open J t) (le-ltb (smallest_open J t) (subformula_count J) (rw is at past))) in
       record { table_is = sym same; told_is = sym (ap (filled t) same ∙ filled_same t) }
 
   pub closing_some :

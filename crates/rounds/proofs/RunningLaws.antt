@@ -1,5 +1,5 @@
 -- A round that leaves out what cannot fill: it leaves the table that is wanted, and marks that are right about it. Assumes nothing.
-use Prim.Native.Nat.{ℕ, ◌<◌}
+use Prim.Native.Nat.{ℕ, ◌<◌, ◌≤◌}
 use mathlib.Core.Path.{◌≡◌}
 use mathlib.Core.Bool.{true}
 use Rattle.job.specs.Job.{subformula_count}
@@ -19,9 +19,9 @@ use Rattle.rounds.proofs.RoundLaws.{closing_none, closing_some, round_exchanged,
 
 module _ {m : Image} {t : Table} {p : Pending} (z : Running m t p) where
   -- What close does to a settled table.
-  pub ran_closing_none : subformula_count (job_of m) ≡ smallest_open (job_of m) t → Ran (job_of m) t (closing (job_of m) t) t p 0
-  ran_closing_none is =
-      let left = closing_none (job_of m) t is in
+  pub ran_closing_none : (k : ℕ) → k ≡ smallest_open (job_of m) t → subformula_count (job_of m) ≤ k → Ran (job_of m) t (closing (job_of m) t) t p 0
+  ran_closing_none k is past =
+      let left = closing_none (job_of m) t k is past in
       record { leaves = left; tracked = z.tracked; few = told_few z.ready _ _ _ left }
 
   pub ran_closing :

@@ -33,14 +33,14 @@ more_behind f (Operator o) ts = refl
 more_behind f (Mark m) ts = refl
 more_behind f Unknown ts = refl
 
--- A reader starts at the text with no lines, and reads an expression.
-module _ (x start : Text) (ls : List (List ℕ)) (begins : (start ≡ x) × (ls ≡ [])) where
+-- A reader starts at the text, and reads an expression.
+module _ (x start : Text) (ls : List (List ℕ)) (begins : start ≡ x) where
   abbrev expression_at_start : Parse
   expression_at_start = parse (expression whole_rule) (tokens start)
 
   reading_is : reading x ≡ whole expression_at_start
   unfolding reading
-  reading_is = ap (λ y. whole (parse (expression whole_rule) (tokens y))) (sym begins.0)
+  reading_is = ap (λ y. whole (parse (expression whole_rule) (tokens y))) (sym begins)
 
   pub rule_missing :
       (y : Text) (m : List (List ℕ)) → ReadsAs start 1 expression_at_start ls None y m → ReadsRule x None
@@ -55,14 +55,15 @@ module _ (x start : Text) (ls : List (List ℕ)) (begins : (start ≡ x) × (ls 
     read_behind : (ts : List Token) → tokens z ≡ ts → reading x ≡ whole (found it.tree ts)
     read_behind ts is = reading_is ∙ ap whole (it.parses ∙ ap (found it.tree) (sym skips.same ∙ is))
 
-    pub rule_ends : empty ≡ true → ReadsRule x (Some m)
+    -- the rule's lines, where there were none
+    pub rule_ends : ls ≡ [] → empty ≡ true → ReadsRule x (Some m)
     unfolding ReadsRule whole
-    rule_ends t =
+    rule_ends none_yet t =
         let l = eqb-true (length z) 0 (sym e ∙ t) in (
           it.tree,
           record {
             read = read_behind [] (no_tokens z l);
-            lines = it.leaves.lines ∙ ap (λ ks. (kept (rewritten it.tree) ks).lines) begins.1;
+            lines = it.leaves.lines ∙ ap (λ ks. (kept (rewritten it.tree) ks).lines) none_yet;
           },
         )
       where

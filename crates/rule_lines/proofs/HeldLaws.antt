@@ -59,21 +59,21 @@ module _ (l : List ℕ) (ls : List (List ℕ)) (n : ℕ) where
   unfolding keep
   keeps_found e h = record { lines = sym (cond_true _ _ _ (or_left _ _ (lt-ltb _ _ (rw e at h)))); number = e }
 
-  module _ (counted : n ≡ length ls) (new : find l ls ≡ length ls) where
-    pub keeps_full : 33 ≤ n → KeptAs (keep l ls) n ls
+  module _ (counted : n ≡ length ls) (r : ℕ) (e : r ≡ find l ls) where
+    pub keeps_full : 33 ≤ n → KeptAs (keep l ls) r ls
     unfolding keep
     keeps_full h =
         record {
           lines = sym (cond_true _ _ _ (or_right (ltb (find l ls) (length ls)) _ (lt-ltb _ _ (omega arith))));
-          number = counted ∙ sym new;
+          number = e;
         }
 
-    pub keeps_new : (after : List (List ℕ)) → n < 33 → after ≡ ls ++ (l ∷ []) → KeptAs (keep l ls) n after
+    pub keeps_new : n ≤ r → (after : List (List ℕ)) → n < 33 → after ≡ ls ++ (l ∷ []) → KeptAs (keep l ls) r after
     unfolding keep
-    keeps_new after h e =
+    keeps_new new after h is =
         record {
-          lines = e ∙ sym (cond_false _ _ _ (or_none _ _ (le-ltb (find l ls) (length ls) (omega arith)) (le-ltb 32 (length ls) (omega arith))));
-          number = counted ∙ sym new;
+          lines = is ∙ sym (cond_false _ _ _ (or_none _ _ (le-ltb (find l ls) (length ls) (omega arith)) (le-ltb 32 (length ls) (omega arith))));
+          number = e;
         }
 
 -- The lines that these subformulas are.

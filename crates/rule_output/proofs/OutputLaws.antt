@@ -7,7 +7,7 @@ use mathlib.Core.Option as opt
 use native.Mathlib.Omega.{arith}
 use borrow.Author.Tests.{leb-true}
 use lib.ListN.{length, take, drop, get_or}
-use lib.Seq.{sets, sets-eq, take-add, take_at, drop_at}
+use lib.Seq.{sets, sets-eq, length-sets, take-add, take_at, drop_at}
 use lib.Dec.{leb}
 use Rattle.law.specs.Lists.{every}
 use Rattle.text.specs.Field.{Text}
@@ -96,10 +96,14 @@ module _ (x out ns : Text) (c : Called x out ns) where
   pub output_right :
       (after : Text)
       → after ≡ sets out 0 (line ns)
-      → take (11 + 16 * get_or ns 1 0) after ≡ rule_output x
+      → (take (11 + 16 * get_or ns 1 0) after ≡ rule_output x) × (11 + 16 * get_or ns 1 0 ≤ length after)
   unfolding rule_output
   output_right after written =
       let first : length (line ns) ≡ 11 = line_length_lem ns ∙ ap (λ l. 5 * length l + 1) c.numbers_are in
-      ap (take (11 + 16 * get_or ns 1 0)) written
-      ∙ first_behind (line ns) out (16 * get_or ns 1 0) first (omega (arith, c.long))
-      ∙ ap₂ (λ l r. l ++ r) (ap line c.numbers_are) (ap₂ (λ n b. take (16 * n) b) lines_are c.left)
+      let room : length after ≡ 523 = ap length written ∙ length-sets out 0 (line ns) ∙ c.long in
+      let few = lines_few in (
+        ap (take (11 + 16 * get_or ns 1 0)) written
+            ∙ first_behind (line ns) out (16 * get_or ns 1 0) first (omega (arith, c.long))
+            ∙ ap₂ (λ l r. l ++ r) (ap line c.numbers_are) (ap₂ (λ n b. take (16 * n) b) lines_are c.left),
+        omega arith,
+      )

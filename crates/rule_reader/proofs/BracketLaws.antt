@@ -1,7 +1,7 @@
 -- Closed forms with brackets: what is parsed mark by mark, and expression by expression. Assumes nothing.
 use Prim.Native.Nat.{ℕ}
 use mathlib.Core.Path.{◌≡◌, refl, ◌∙◌}
-use mathlib.Core.Bool.{Bool, false}
+use mathlib.Core.Bool.{Bool, true, false}
 use mathlib.Core.List.{List, [], ◌∷◌}
 use native.Mathlib.Omega.{arith}
 use Rattle.std.proofs.Common.{Some, None}
@@ -26,7 +26,7 @@ use Rattle.scanner.specs.Scanned.{Left}
 use Rattle.scanner.proofs.ScanLaws.{left_then}
 use Rattle.rule_lines.specs.Held.{KeptAs}
 use Rattle.rule_places.specs.Places.{starts_with_mark, Passes}
-use Rattle.rule_reader.specs.Reads.{ReadsAs}
+use Rattle.rule_reader.specs.Reads.{until_kind, ReadsAs}
 use Rattle.rule_reader.proofs.ReadsLaws.{reads_none, reads_parsed, part_read, then_none, then_found}
 
 -- A mark that is expected.
@@ -85,7 +85,12 @@ module _ (x : Text) (ls : List (List ℕ)) where
           leaves = it.leaves;
         })
 
--- Behind `A` or `E`.
+-- Behind `A` or `E`: the numbers of the operator's line, and what is kept.
+pub until_fields : (all : Bool) (a b : ℕ) → fields (until_line (quantifier all) a b) ≡ until_kind all ∷ a ∷ b ∷ []
+unfolding fields until_line until_kind
+until_fields true a b = refl
+until_fields false a b = refl
+
 until_leaves :
     (all : Bool) (f g : Tree) (ls m n : List (List ℕ)) (a b : ℕ)
     → KeptAs (kept (rewritten f) ls) a m

@@ -15,6 +15,7 @@ use Rattle.rule_text.specs.Kept.{keep, kept}
 use Rattle.rule_text.specs.Scan.{tokens}
 use Rattle.rule_text.specs.Parse.{Parse, none, found, and_then, parse, read_step, read_prefix, read_marked, read_closed, prefix_form, closed_form}
 use Rattle.rule_text.specs.declared.token.Prefix.{Prefix as PrefixOperator}
+use Rattle.rule_text.specs.declared.token.Prefix.TheVariants.{Not, Ax, Ex, Eg, Ag}
 use Rattle.rule_text.specs.declared.token.Mark.{Mark as MarkKind}
 use Rattle.rule_text.specs.declared.token.Mark.TheVariants.{ForAllPaths, OnSomePath, Until, LeftParenthesis, RightParenthesis, LeftBracket, RightBracket}
 use Rattle.rule_text.specs.declared.token.Token.{Token}
@@ -25,7 +26,7 @@ use Rattle.scanner.proofs.ScanLaws.{left_then}
 use Rattle.rule_lines.specs.Held.{KeptAs}
 use Rattle.rule_places.specs.Places.{Passes}
 use Rattle.rule_places.proofs.PlaceLaws.{known, scans_passes}
-use Rattle.rule_reader.specs.Reads.{ReadsAs}
+use Rattle.rule_reader.specs.Reads.{prefix_kind, ReadsAs}
 use Rattle.rule_reader.proofs.ReadsLaws.{reads_is, reads_none, reads_parsed, part_read, then_none, then_found, reads_behind}
 
 -- One step of the descent.
@@ -126,6 +127,15 @@ pub reads_other_mark :
     → opens_form m ≡ false
     → ReadsAs x 0 (parse closed_form (Mark m ∷ tokens x)) ls None y after
 reads_other_mark x ls m y after e = reads_none x 0 ls _ y after (mark_step x ls m None y after ∙ other_mark m (tokens x) e)
+
+-- The numbers of the operator's line.
+pub prefix_fields : (p : PrefixOperator) (a : ℕ) → fields (prefix_line p a) ≡ prefix_kind p ∷ a ∷ 0 ∷ []
+unfolding fields prefix_line prefix_kind
+prefix_fields Not a = refl
+prefix_fields Ax a = refl
+prefix_fields Ex a = refl
+prefix_fields Eg a = refl
+prefix_fields Ag a = refl
 
 prefix_leaves :
     (p : PrefixOperator) (f : Tree) (ls : List (List ℕ)) (line : ℕ) (m : List (List ℕ))

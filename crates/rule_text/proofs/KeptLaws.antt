@@ -18,7 +18,16 @@ use Rattle.rule_text.specs.Lines.{Basic, atom, prefix, both, until, rewritten, p
 use Rattle.rule_text.specs.Kept.{find, Kept, keep, kept}
 use Rattle.rule_text.proofs.AddLaws.{add_cases, add_grows, placed_grows}
 
--- One line kept: the lines with it.
+-- One line kept: its number, and the lines with it.
+pub find_within : (l : List ℕ) (ls : List (List ℕ)) → find l ls ≤ length ls
+unfolding find
+find_within l [] = omega arith
+find_within l (m ∷ ls) =
+    let h = find_within l ls in
+    split (equal l m)
+    (λ t. rw (cond_true (equal l m) 0 (suc (find l ls)) t) (omega arith))
+    (λ n. rw (cond_false (equal l m) 0 (suc (find l ls)) n) (omega arith))
+
 module _ (l : List ℕ) (ls : List (List ℕ)) where
   -- all lines are as before, or one more stands behind at most 32
   keep_cases : ((keep l ls).lines ≡ ls) ⊎ ((length ls ≤ 32) × ((keep l ls).lines ≡ ls ++ (l ∷ [])))

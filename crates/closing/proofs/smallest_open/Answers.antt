@@ -1,5 +1,5 @@
 -- `smallest_open`: no subformula passed so far is open.
-use mathlib.Core.Path.{sym, ◌∙◌}
+use mathlib.Core.Path.{refl, sym, ◌∙◌}
 use borrow.Author.Count.{below_more}
 use borrow.Author.Rules.{rules}
 use native.Mathlib.Omega.{arith}
@@ -28,10 +28,10 @@ pub returns-then-owner_cell-eq2-clause-value : goal.returns-then-owner_cell-eq2-
 returns-then-owner_cell-eq2-clause-value c =
     let l = c.loop-k in
     let r = c.loop-s in
-    smallest_open_is _ _ l.k (omega (arith, l.invariant.1)) l.invariant.2
-    (open_here _ _ r.s l.k (omega (arith, r.invariant.1)) (sym c.owner_cell.ensures ∙ c.if-owner_cell-eq2.true))
+    (smallest_open_is _ _ l.k (omega (arith, l.invariant.1)) l.invariant.2
+    (open_here _ _ r.s l.k (omega (arith, r.invariant.1)) (sym c.owner_cell.ensures ∙ c.if-owner_cell-eq2.true))).0
 
 pub returns-after-loop-k-clause-value : goal.returns-after-loop-k-clause-value
 returns-after-loop-k-clause-value c =
     let l = c.loop-k in
-    smallest_none _ _ (λ j g. l.invariant.2 j (omega (arith, l.invariant.1)))
+    (smallest_none _ _ _ refl (λ j g. l.invariant.2 j (omega (arith, l.invariant.1)))).0

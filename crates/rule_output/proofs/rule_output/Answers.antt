@@ -34,4 +34,4 @@ new-requires c =
     search rules
 
 pub returns : goal.returns
-returns c = c.new.ensures ∙ output_right _ _ _ (here (goal.at.returns c).After-first_numbers-numbers) _ c.write_line.ensures
+returns c = c.new.ensures ∙ (output_right _ _ _ (here (goal.at.returns c).After-first_numbers-numbers) _ c.write_line.ensures).0
