@@ -52,6 +52,15 @@ impl Order {
     }
 }
 
+// What is kept for question 7: the state that a line starts from is marked, if it is one of 256. Question 6 refuses any other.
+pub fn mark_start(starts: &mut [bool; 256], source: usize)
+    ensures { starts.new ≡ set starts.old source true }
+{
+    if source < starts.len() {
+        starts[source] = true;
+    }
+}
+
 fn first_unmarked(marks: &[bool]) -> Option<usize>
     ensures { result ≡ position not marks.now }
 {
@@ -84,10 +93,7 @@ impl Kept {
         ensures { self.new ≡ after self.old source target }
     {
         self.order = self.order.after(source, target);
-        // question 6 refuses what is none of 256
-        if source < self.starts.len() {
-            self.starts[source] = true;
-        }
+        mark_start(&mut self.starts, source);
     }
 
     // The lowest state that no edge line starts from, if there is one.

@@ -6,10 +6,10 @@ ghost use Rattle.page_output.specs.PageOutput.{node_named, page_output};
 ghost use Rattle.page_output.specs.PageSize.{PageSize};
 
 use calls::page::page;
-use from_fresh::{finish_fresh, table_size};
-use layout::head::head;
+use from_fresh::{finish_fresh, line_one, table_size};
 use output::Output;
 use text::decimal::write_line;
+use text::field::digit;
 
 // No job has so many nodes. A number, and no `None`, since the call page takes any number, as C passes it, and refuses this one.
 const NO_NODE: usize = 255;
@@ -19,19 +19,17 @@ fn node_named(argument: &[u8]) -> usize
     ensures { result ≡ node_named argument.now }
 {
     match argument {
-        [c] if c.is_ascii_digit() => usize::from(*c - b'0'),
+        [c] if c.is_ascii_digit() => digit(*c),
         _ => NO_NODE,
     }
 }
 
-// How many bytes the page for a text has, 80 for each state that line 1 has and 80 more, and 0 where line 1 is refused, since nothing is printed of it then.
+// How many bytes the page for a text has, 80 for each state that line 1 has and 80 more. Where line 1 is refused nothing is printed of it.
 fn page_size(text: &[u8]) -> usize
     ensures { PageSize text.now result }
 {
-    match head(text) {
-        Ok(h) => 80 * (h.states + 1),
-        Err(_) => 0,
-    }
+    let h = line_one(text);
+    80 * (h.states + 1)
 }
 
 // All that is printed: the longest page has 80 * (256 + 1) bytes.

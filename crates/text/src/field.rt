@@ -1,9 +1,19 @@
 // Reading: a number is five columns, spaces and then digits (document 01, "Job text").
-ghost use Rattle.std.specs.Prelude.{◌≡◌, ◌+◌, ◌≤◌, eqb, length, IfSome};
+ghost use Rattle.std.specs.Prelude.{◌≡◌, true, ◌+◌, ◌-◌, ◌≤◌, eqb, length, IfSome};
 ghost use Rattle.std.specs.List.{prefix_len};
-ghost use Rattle.text.specs.Field.{digits, field};
+ghost use Rattle.text.specs.Field.{is_digit, digits, field};
+
+// The value of a digit.
+#[inline]
+pub fn digit(c: u8) -> usize
+    requires { is_digit c ≡ true }
+    ensures { (result ≡ c - 48) × (result ≤ 9) }
+{
+    usize::from(c - b'0')
+}
 
 // How many spaces come before anything else.
+#[inline]
 pub fn spaces(text: &[u8]) -> usize
     ensures { result ≡ prefix_len (λ c. eqb c 32) text.now }
 {
@@ -20,7 +30,7 @@ fn read_digits(first: usize, columns: &[u8]) -> Option<usize>
         if !c.is_ascii_digit() || value == 0 {
             return None;
         }
-        value = value * 10 + usize::from(c - b'0');
+        value = value * 10 + digit(c);
     }
     Some(value)
 }
@@ -36,5 +46,5 @@ pub fn read_field(text: &[u8], at: usize) -> Option<usize>
     if !first.is_ascii_digit() {
         return None;
     }
-    read_digits(usize::from(first - b'0'), more)
+    read_digits(digit(first), more)
 }

@@ -6,7 +6,7 @@ use Rattle.page_output.proofs.node_named.Goals as goal
 pub returns-in-len1 : goal.returns-in-len1
 returns-in-len1 c =
     let one : length c.args.argument.now ≡ 1 = omega arith in
-    c.from.ensures ∙ sym (a_digit _ one (sym c.is_ascii_digit.ensures.value ∙ c.if-is_ascii_digit.true))
+    c.digit.ensures.0 ∙ sym (a_digit _ one (sym c.is_ascii_digit.ensures.value ∙ c.if-is_ascii_digit.true))
 
 pub returns-in_default : goal.returns-in_default
 returns-in_default c = sym (other_length _ (λ one. omega arith))
