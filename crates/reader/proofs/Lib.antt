@@ -1,2 +1,3 @@
+mod AskedLaws
 mod ReaderLaws
 mod JobLaws

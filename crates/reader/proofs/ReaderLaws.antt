@@ -112,13 +112,13 @@ module _ (t : Text) (h : Header) (fits : Fits t h) where
       (edge : k ≡ kept_after t h.edges)
       (formula : f ≡ right_lines (formula_ok t) h.subformulas)
     where
-      asked_5 : question5 h s ≡ state_lines t
+      asked_5_is : question5 h s ≡ state_lines t
       unfolding question5 state_lines of_lines all
-      asked_5 = rw (state, fits.states_are)
+      asked_5_is = rw (state, fits.states_are)
 
-      asked_8 : question8 h f ≡ formula_lines t
+      asked_8_is : question8 h f ≡ formula_lines t
       unfolding question8 formula_lines of_lines all
-      asked_8 = rw (formula, fits.states_are, fits.edges_are, fits.subformulas_are)
+      asked_8_is = rw (formula, fits.states_are, fits.edges_are, fits.subformulas_are)
 
       kept_is : k ≡ kept_of t
       unfolding kept_of
@@ -128,7 +128,7 @@ module _ (t : Text) (h : Header) (fits : Fits t h) where
       unfolding lines_asked text_questions head_questions line_questions
       asked_are =
           let few : states t ≤ 256 = omega (arith, fits.states_are, fits.states_to) in
-          λ i. asked_5 i ∷ (ap question6 kept_is ∙ answer_6 t) i ∷ (ap question7 kept_is ∙ answer_7 t few) i ∷ asked_8 i ∷ []
+          λ i. asked_5_is i ∷ (ap question6 kept_is ∙ answer_6 t) i ∷ (ap question7 kept_is ∙ answer_7 t few) i ∷ asked_8_is i ∷ []
 
       header_is : header_numbers h ≡ header t
       unfolding header
