@@ -24,7 +24,7 @@ fn node_named(argument: &[u8]) -> usize
     }
 }
 
-// How many bytes the page for a text has, 80 for each state that line 1 has and 80 more. Where line 1 is refused nothing is printed of it.
+// How many bytes the page for a text has, 80 for each state that line 1 has and 80 more. Where line 1 is refused no page is printed.
 fn page_size(text: &[u8]) -> usize
     ensures { PageSize text.now result }
 {

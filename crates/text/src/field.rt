@@ -4,7 +4,6 @@ ghost use Rattle.std.specs.List.{prefix_len};
 ghost use Rattle.text.specs.Field.{is_digit, digits, field};
 
 // The value of a digit.
-#[inline]
 pub fn digit(c: u8) -> usize
     requires { is_digit c ≡ true }
     ensures { (result ≡ c - 48) × (result ≤ 9) }
@@ -13,7 +12,6 @@ pub fn digit(c: u8) -> usize
 }
 
 // How many spaces come before anything else.
-#[inline]
 pub fn spaces(text: &[u8]) -> usize
     ensures { result ≡ prefix_len (λ c. eqb c 32) text.now }
 {
