@@ -1,7 +1,7 @@
 -- `joins`: only a state that may, and where that many of its edges are told.
-use Rattle.std.proofs.Common.{◌∙◌, sym, arith}
-use borrow.Author.Tests.{eqb-true}
+use Rattle.std.proofs.Common.{arith}
 use Rattle.image.proofs.ImageLaws.{image_job}
+use Rattle.spread.proofs.Marks.{number_is}
 use Rattle.spread.proofs.Tally.{run_is, joins_all, joins_some}
 use Rattle.spread.proofs.spread.joins.Goals as goal
 
@@ -15,8 +15,8 @@ overflow_sub-result g c =
 pub returns-then-all : goal.returns-then-all
 returns-then-all g c =
     rw c.from.ensures
-    (joins_all _ _ _ _ _ _ _ (eqb-true _ 1 (sym c.may_join.ensures ∙ c.if-not-may_join.false)) c.if-all.true
+    (joins_all _ _ _ _ _ _ _ (number_is _ 1 c.may_join.ensures c.if-not-may_join.false) c.if-all.true
     c.first_edge-then-all.ensures.0 c.first_edge.ensures.0)
 
 pub returns : goal.returns
-returns g c = joins_some _ _ _ _ (eqb-true _ 1 (sym c.may_join.ensures ∙ c.if-not-may_join.false)) c.if-all.false
+returns g c = joins_some _ _ _ _ (number_is _ 1 c.may_join.ensures c.if-not-may_join.false) c.if-all.false

@@ -17,7 +17,8 @@ module _ (g : Over) (c : After-from g) where
   popped = c.in-Some.ensures.some ∙ ap (λ t. c.pop.new.self ++ t ∷ []) (sym c.from.ensures)
 
   taken :
-      Taken (job_of c.args.m.now) c.args.n c.args.all (g.M.Marks.numbers c.args.marks.now) c.loop-t.invariant.0 c.from.result (g.M.Marks.numbers c.loop-t.marks)
+      Taken (job_of c.args.m.now) c.args.n c.args.all (g.M.Marks.numbers c.args.marks.now) c.loop-t.invariant.0 c.from.result
+      (g.M.Marks.numbers c.loop-t.marks)
       (record { counts = c.loop-t.list.counts; waiting = c.pop.new.self })
   taken = list_taken c.loop-t.list c.loop-t.invariant.1 c.pop.new.self c.from.result popped _ refl refl
 

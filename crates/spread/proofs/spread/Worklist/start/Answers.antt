@@ -1,9 +1,9 @@
 -- `start`: the states of the fragment passed so far wait where they are in the set.
-use Rattle.std.proofs.Common.{◌∙◌, sym, arith}
-use borrow.Author.Tests.{eqb-true, eqb-false}
+use Rattle.std.proofs.Common.{arith}
 use Rattle.image.specs.Denoted.{job_of}
 use Rattle.image.proofs.ImageLaws.{image_job}
 use Rattle.image.proofs.FragmentSlice.{Member, member_read, members_over}
+use Rattle.spread.proofs.Marks.{number_is, number_not}
 use Rattle.spread.proofs.Waits.{start_none, start_rest, start_room, start_push, start_over}
 use Rattle.spread.proofs.Worklist.{list_start}
 use Rattle.spread.proofs.spread.Worklist.start.Given.{Over}
@@ -23,7 +23,7 @@ pub push-requires : goal.push-requires
 push-requires g c =
     let at = here g (goal.at.push-requires g c).After-from in
     start_room _ _ (g.M.Marks.numbers c.args.marks.now) (image_job c.args.m.now) c.loop-state.invariant at.ranked _ at.is
-    (eqb-true _ 2 (sym c.is_in.ensures ∙ c.if-is_in.true))
+    (number_is _ 2 c.is_in.ensures c.if-is_in.true)
 
 pub loop-state-preserved : goal.loop-state-preserved
 loop-state-preserved g c =
@@ -33,10 +33,10 @@ loop-state-preserved g c =
     elim c.if-is_in.branch [
       | then-is_in w ↦
           rw (w.waiting-is, w.push.ensures, ← c.from.ensures)
-          (start_push _ _ marks (image_job c.args.m.now) l.invariant at.ranked _ at.is (eqb-true _ 2 (sym c.is_in.ensures ∙ w.if-is_in.true)))
+          (start_push _ _ marks (image_job c.args.m.now) l.invariant at.ranked _ at.is (number_is _ 2 c.is_in.ensures w.if-is_in.true))
       | else-is_in w ↦
           rw w.waiting-is
-          (start_rest _ _ marks (image_job c.args.m.now) l.invariant at.ranked _ at.is (eqb-false _ 2 (sym c.is_in.ensures ∙ w.if-is_in.false)))
+          (start_rest _ _ marks (image_job c.args.m.now) l.invariant at.ranked _ at.is (number_not _ 2 c.is_in.ensures w.if-is_in.false))
     ]
 
 pub returns : goal.returns

@@ -26,7 +26,8 @@ module _ (g : Over) (c : In-Some g) where
       c.loop-next.self.counts.now c.loop-next.self.waiting e
 
   on_walk :
-      (before : List ℕ) (told : ℕ → Bool) → Taken (job_of c.args.m.now) c.args.n c.args.all before told c.args.t (g.M.Marks.numbers c.args.marks.now) c.args.self.now
+      (before : List ℕ) (told : ℕ → Bool)
+      → Taken (job_of c.args.m.now) c.args.n c.args.all before told c.args.t (g.M.Marks.numbers c.args.marks.now) c.args.self.now
       → At before told (suc c.in-Some.e)
   on_walk before told w = subst (At before told) (ap number c.in-Some.is) (c.loop-next.invariant before told w)
 
@@ -76,5 +77,5 @@ ended (Some e) none = absurd (none e refl)
 
 pub returns : goal.returns
 returns g c =
-    λ before told w.
-    walk_over _ _ _ _ _ _ (image_job c.args.m.now) w.new (c.loop-next.invariant before told w) (ended c.loop-next.next c.in_default.not-Some)
+    λ before told taken.
+    walk_over _ _ _ _ _ _ (image_job c.args.m.now) taken.new (c.loop-next.invariant before told taken) (ended c.loop-next.next c.in_default.not-Some)
