@@ -77,14 +77,20 @@ fn place_in(lines: &JobLines, n: usize, last: &[u16; 256], s: usize) -> Place
     Place::Border
 }
 
-// Node n's fragment: the places of all states in it, and the list of those that are in it.
-fn fragment_of(lines: &JobLines, n: usize, last: &[u16; 256]) -> Fragment
+// Node n's fragment, laid where it stands: the places of all states in it, and the list of those that are in it. Two fields and no struct of both, since the
+// length of an array is known where it is lent by itself.
+fn lay_fragment(
+    lines: &JobLines,
+    n: usize,
+    last: &[u16; 256],
+    places: &mut [Place; 256],
+    states: &mut ArrayVec<u8, 256>,
+)
     requires is_job { IsJob (lines_job lines.now) }
     requires ends { Ends (lines_job lines.now) n last.now }
-    ensures { IsFragment (lines_job lines.now) n result }
+    ensures { IsFragment (lines_job lines.now) n (record { places = places.new; states = states.new }) }
 {
-    let mut places = [Place::Outside; 256];
-    let mut states = ArrayVec::new();
+    states.clear();
     for s in 0..lines.states.len() {
         let place = place_in(lines, n, last, s);
         places[s] = place;
@@ -92,7 +98,6 @@ fn fragment_of(lines: &JobLines, n: usize, last: &[u16; 256]) -> Fragment
             states.push(s as u8);
         }
     }
-    Fragment { places, states }
 }
 
 // The fragments of all eight nodes: one that the job does not have owns no state, so its fragment is empty.
@@ -102,7 +107,8 @@ fn lay_fragments(lines: &JobLines, last: &[[u16; 256]; 8], fragments: &mut [Frag
     ensures { Fragments (lines_job lines.now) 8 fragments.new }
 {
     for n in 0..8 {
-        fragments[n] = fragment_of(lines, n, &last[n]);
+        let Fragment { places, states } = &mut fragments[n];
+        lay_fragment(lines, n, &last[n], places, states);
     }
 }
 

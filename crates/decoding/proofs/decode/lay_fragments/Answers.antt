@@ -6,6 +6,7 @@ use lib.ListN.{length-set}
 use lib.Seq.{get_or-set_same, get_or-set_other}
 use Rattle.image.specs.Lines.{lines_job}
 use Rattle.image.specs.Image.{IsFragment}
+use Rattle.image.specs.declared.space.Fragment.{Fragment}
 use Rattle.decoding.proofs.decode.lay_fragments.Goals as goal
 
 pub loop-n-init : goal.loop-n-init
@@ -15,11 +16,11 @@ pub loop-n-preserved : goal.loop-n-preserved
 loop-n-preserved c =
     let l = c.loop-n in
     let J = lines_job c.args.lines.now in
-    let f = c.fragment_of.result in (
+    let f : Fragment = record { places = c.lay_fragment.new.places; states = c.lay_fragment.new.states } in (
       length-set l.fragments l.n f ∙ l.invariant.0,
       below_more _ l.n
           (λ n g past. subst (IsFragment J n) (sym (get_or-set_other l.fragments l.n n f past (λ q. omega arith))) (l.invariant.1 n g past))
-          (λ past. subst (IsFragment J l.n) (sym (get_or-set_same l.fragments l.n f past (omega (arith, l.invariant.0)))) c.fragment_of.ensures),
+          (λ past. subst (IsFragment J l.n) (sym (get_or-set_same l.fragments l.n f past (omega (arith, l.invariant.0)))) c.lay_fragment.ensures),
     )
 
 pub returns : goal.returns

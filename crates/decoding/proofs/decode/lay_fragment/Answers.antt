@@ -1,4 +1,4 @@
--- `fragment_of`: the states passed so far have their places, and those of the fragment are listed.
+-- `lay_fragment`: the states passed so far have their places, and those of the fragment are listed.
 use Prim.Native.Nat.{ℕ, ◌+◌}
 use mathlib.Core.Path.{refl, sym, ◌∙◌, ap, subst}
 use native.Mathlib.Omega.{arith}
@@ -6,14 +6,14 @@ use Rattle.arrayvec.specs.ArrayVec.{ArrayVec}
 use Rattle.image.specs.Lines.{lines_job}
 use Rattle.image.proofs.LinesLaws.{states_read}
 use Rattle.decoding.proofs.FragmentLaws.{ListedSoFar, listed_none, listed_few, listed_in, listed_out, listed_all}
-use Rattle.decoding.proofs.decode.fragment_of.Goals as goal
-use Rattle.decoding.proofs.decode.fragment_of.Goals.{then-ne, else-ne}
+use Rattle.decoding.proofs.decode.lay_fragment.Goals as goal
+use Rattle.decoding.proofs.decode.lay_fragment.Goals.{then-ne, else-ne}
 
 pub loop-s-init : goal.loop-s-init
 loop-s-init c =
     let J = lines_job c.args.lines.now in
     let w = states_read c.args.lines.now c.requires.is_job _ refl in
-    ((w.0, w.2), subst (ListedSoFar J c.args.n 0 _) (sym c.new-states.ensures) (listed_none J c.args.n _ refl))
+    ((w.0, w.2), subst (ListedSoFar J c.args.n 0 _) (sym c.clear.ensures) (listed_none J c.args.n _ c.told-places))
 
 pub place_in-place-requires-clause-s_bound : goal.place_in-place-requires-clause-s_bound
 place_in-place-requires-clause-s_bound c = omega (arith, c.loop-s.invariant.0)

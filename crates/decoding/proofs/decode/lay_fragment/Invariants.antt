@@ -1,11 +1,11 @@
--- `fragment_of`: the states passed so far have their places, and those of the fragment are listed.
+-- `lay_fragment`: the states passed so far have their places, and those of the fragment are listed.
 use Prim.Native.Nat.{◌≤◌}
 use mathlib.Core.Path.{◌≡◌}
 use lib.ListN.{length}
 use Rattle.job.specs.Job.{size}
 use Rattle.image.specs.Lines.{lines_job}
 use Rattle.decoding.proofs.FragmentLaws.{ListedSoFar}
-use Rattle.decoding.proofs.decode.fragment_of.Given as goal
+use Rattle.decoding.proofs.decode.lay_fragment.Given as goal
 
 abbrev pub invariant-loop-s : goal.invariant-loop-s
 invariant-loop-s l =
