@@ -11,8 +11,8 @@ pub struct Binding {
     pub leftward: bool,
 }
 
-// Of `&`, `|` and `=>`. A constant table and no `match`: document 01 names this form.
-const BINDINGS: [Binding; 3] = [
+// Of `&`, `|` and `=>`. A constant table and no `match`: document 01 names this form. A static, since a const would be laid on the stack at each use.
+static BINDINGS: [Binding; 3] = [
     Binding {
         strength: 3,
         leftward: true,
