@@ -1,6 +1,6 @@
 // All numbers of a call's answer, from its result.
 ghost use Rattle.std.specs.Prelude.{◌≡◌, ◌<◌, ◌++◌, ℕ, List};
-ghost use Rattle.std.proofs.Common.{rules};
+ghost use Rattle.std.proofs.Common.{lit<};
 ghost use Rattle.job.specs.Answer.{numbers};
 ghost use Rattle.job.specs.Read.{header_numbers};
 ghost use Rattle.job.specs.Refused.{told};
@@ -19,15 +19,10 @@ pub trait Own<const N: usize> {
 
     fn own_numbers(self) -> [usize; N]
         ensures { result ≡ own self };
-
-    // What an array of N numbers asks where it is a slice, said once here and by no caller.
-    ghost few: { N < 65536 };
 }
 
 impl Own<0> for () {
     ghost own = { none };
-
-    ghost few = { Prim.search rules };
 
     fn own_numbers(self) -> [usize; 0] {
         []
@@ -37,8 +32,6 @@ impl Own<0> for () {
 impl Own<1> for usize {
     ghost own = { one };
 
-    ghost few = { Prim.search rules };
-
     fn own_numbers(self) -> [usize; 1] {
         [self]
     }
@@ -46,8 +39,6 @@ impl Own<1> for usize {
 
 impl Own<1> for u8 {
     ghost own = { one };
-
-    ghost few = { Prim.search rules };
 
     fn own_numbers(self) -> [usize; 1] {
         [usize::from(self)]
@@ -57,8 +48,6 @@ impl Own<1> for u8 {
 impl Own<4> for Header {
     ghost own = { header_numbers };
 
-    ghost few = { Prim.search rules };
-
     fn own_numbers(self) -> [usize; 4] {
         [self.states, self.edges, self.subformulas, self.nodes]
     }
@@ -66,8 +55,6 @@ impl Own<4> for Header {
 
 impl Own<3> for Message {
     ghost own = { message_numbers };
-
-    ghost few = { Prim.search rules };
 
     fn own_numbers(self) -> [usize; 3] {
         [self.state, self.subformula, usize::from(self.value)]
@@ -77,8 +64,6 @@ impl Own<3> for Message {
 impl Own<2> for Closing {
     ghost own = { closing_numbers };
 
-    ghost few = { Prim.search rules };
-
     fn own_numbers(self) -> [usize; 2] {
         [self.subformula, self.filled]
     }
@@ -87,11 +72,42 @@ impl Own<2> for Closing {
 impl Own<3> for Outcome {
     ghost own = { outcome_numbers };
 
-    ghost few = { Prim.search rules };
-
     fn own_numbers(self) -> [usize; 3] {
         [usize::from(self.verdict), self.rounds, self.cells]
     }
+}
+
+// An answer that has few numbers of its own: what an array of them asks where it is lent as a slice is said here, and by no caller.
+pub trait Few<const N: usize>: Own<N> {
+    ghost few: { N < 65536 };
+}
+
+impl Few<0> for () {
+    ghost few = { lit< tt };
+}
+
+impl Few<1> for usize {
+    ghost few = { lit< tt };
+}
+
+impl Few<1> for u8 {
+    ghost few = { lit< tt };
+}
+
+impl Few<4> for Header {
+    ghost few = { lit< tt };
+}
+
+impl Few<3> for Message {
+    ghost few = { lit< tt };
+}
+
+impl Few<2> for Closing {
+    ghost few = { lit< tt };
+}
+
+impl Few<3> for Outcome {
+    ghost few = { lit< tt };
 }
 
 // Number and line, and the call's own numbers.

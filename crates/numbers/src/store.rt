@@ -1,10 +1,10 @@
 // Storing an answer's numbers into a lent array, whatever its length.
-ghost use Rattle.std.specs.Prelude.{◌≡◌, set};
+ghost use Rattle.std.specs.Prelude.{◌≡◌, ◌<◌, set};
 ghost use Rattle.job.specs.Answer.{numbers};
 ghost use Rattle.job.specs.Refused.{told};
 ghost use Rattle.numbers.specs.Stored.{stored, stored_from};
 
-use crate::answers::{Own, numbers_of};
+use crate::answers::{Few, Own, numbers_of};
 use job::refusal::Refusal;
 
 // Stores one number, if there is room for it.
@@ -28,11 +28,20 @@ pub fn put_all(out: &mut [usize], at: usize, numbers: &[usize])
     }
 }
 
-// Stores an answer's numbers from the front on.
+// Stores an answer's numbers from the front on. It asks of N what any array of numbers does, that its bytes can be counted.
 pub fn store<T: Own<N>, const N: usize>(out: &mut [usize], answer: Result<T, Refusal>)
+    requires { N < 65536 }
     ensures { out.new ≡ stored out.old (numbers (told T.own N answer)) }
 {
     let (front, own) = numbers_of(answer);
     put_all(out, 0, &front);
     put_all(out, 2, &own);
+}
+
+// The same of an answer that has few numbers by a law of its own: nothing is asked. Every call's answer has that law.
+#[inline(always)]
+pub fn store_few<T: Few<N>, const N: usize>(out: &mut [usize], answer: Result<T, Refusal>)
+    ensures { out.new ≡ stored out.old (numbers (told T.own N answer)) }
+{
+    store(out, answer);
 }

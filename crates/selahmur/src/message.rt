@@ -5,7 +5,7 @@ ghost use Rattle.selahmur.specs.StoredAnswer.{stored_answer};
 
 use calls::accept::accept;
 use calls::offer::{Message, offer};
-use numbers::store::store;
+use numbers::store::store_few;
 
 // Hands out a message from the owner's cell. Own numbers: state, subformula, value.
 #[tactic(auto, using(crate::proofs::AnswerLaws::stored_told), unfolding(calls::specs::Told::offer_told))]
@@ -20,7 +20,7 @@ pub extern "C" fn selahmur_offer(
     ensures told { out.new ≡ stored_answer out.old (Call.offer state subformula) text.now table.now }
     ensures left { table.now ≡ after (Call.offer state subformula) text.now table.now }
 {
-    store(out, offer(text, table, state, subformula));
+    store_few(out, offer(text, table, state, subformula));
 }
 
 // A node's cell at a border state takes a message's value, if it is empty. C passes any byte as a value, and all but 0 and 1 are refused.
@@ -45,5 +45,5 @@ pub extern "C" fn selahmur_accept(
         subformula,
         value,
     };
-    store(out, accept(text, table, node, message));
+    store_few(out, accept(text, table, node, message));
 }

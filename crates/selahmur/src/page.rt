@@ -5,7 +5,7 @@ ghost use Rattle.page_text.specs.PageCall.{page_buffer};
 ghost use Rattle.selahmur.specs.StoredAnswer.{stored_answer};
 
 use calls::page::page;
-use numbers::store::store;
+use numbers::store::store_few;
 
 // Writes the page of a node's table at the start of the buffer; the bytes behind it stay, and so does the table. No numbers of its own.
 #[tactic(auto, using(crate::proofs::AnswerLaws::stored_told), unfolding(calls::specs::Told::page_told))]
@@ -22,5 +22,5 @@ pub extern "C" fn selahmur_page(
     ensures left { table.now ≡ after (Call.page node (length buffer.old)) text.now table.now }
     ensures written { buffer.new ≡ page_buffer text.now table.now node buffer.old }
 {
-    store(out, page(text, table, node, buffer));
+    store_few(out, page(text, table, node, buffer));
 }

@@ -6,7 +6,7 @@ ghost use Rattle.numbers.specs.Stored.{stored};
 
 use calls::read::read;
 use layout::lines::{Part, line_part};
-use numbers::store::{put_all, store};
+use numbers::store::{put_all, store_few};
 
 // Questions 1 to 8. Own numbers: states, edges, subformulas, nodes.
 #[tactic(auto, using(crate::proofs::AnswerLaws::stored_told), unfolding(job::specs::Read::read_told))]
@@ -14,7 +14,7 @@ use numbers::store::{put_all, store};
 pub extern "C" fn selahmur_read(text: &[u8], out: &mut [usize])
     ensures { out.new ≡ stored out.old (numbers (read_answer text.now)) }
 {
-    store(out, read(text));
+    store_few(out, read(text));
 }
 
 // Where line `number` of the text stands, counted from 1 and without byte 10: its first byte and how many there are, 0 and 0 where there is

@@ -4,7 +4,7 @@ ghost use Rattle.job.specs.Answer.{numbers};
 ghost use Rattle.rule_text.specs.RuleCall.{rule_answer, rule_buffer};
 ghost use Rattle.numbers.specs.Stored.{stored};
 
-use numbers::store::store;
+use numbers::store::store_few;
 use rule_call::rule::rule;
 
 // Reads rule text, and writes its lines into a buffer of 512 bytes; a refusal leaves every byte. Own number: how many lines.
@@ -14,5 +14,5 @@ pub extern "C" fn selahmur_rule(text: &[u8], buffer: &mut [u8], out: &mut [usize
     ensures told { out.new ≡ stored out.old (numbers (rule_answer text.now buffer.old)) }
     ensures left { buffer.new ≡ rule_buffer text.now buffer.old }
 {
-    store(out, rule(text, buffer));
+    store_few(out, rule(text, buffer));
 }

@@ -8,7 +8,7 @@ use calls::finish::finish;
 use calls::fresh::fresh;
 use calls::look::look;
 use calls::step::step;
-use numbers::store::store;
+use numbers::store::store_few;
 
 // Makes every cell empty. No numbers of its own.
 #[tactic(auto, using(crate::proofs::AnswerLaws::stored_told), unfolding(calls::specs::Told::fresh_told))]
@@ -17,7 +17,7 @@ pub extern "C" fn selahmur_fresh(text: &[u8], table: &mut [u8], out: &mut [usize
     ensures told { out.new ≡ stored_answer out.old Call.fresh text.now table.old }
     ensures left { table.new ≡ after Call.fresh text.now table.old }
 {
-    store(out, fresh(text, table));
+    store_few(out, fresh(text, table));
 }
 
 // The step of one node. Own number: how many cells are filled.
@@ -27,7 +27,7 @@ pub extern "C" fn selahmur_step(text: &[u8], table: &mut [u8], node: usize, out:
     ensures told { out.new ≡ stored_answer out.old (Call.step node) text.now table.old }
     ensures left { table.new ≡ after (Call.step node) text.now table.old }
 {
-    store(out, step(text, table, node));
+    store_few(out, step(text, table, node));
 }
 
 // The cell of a node, state and subformula; node 255 names none and is read as the state's owner. Own number: the cell, 2 where it is empty.
@@ -45,7 +45,7 @@ pub extern "C" fn selahmur_look(
         ≡ stored_answer out.old (Call.look node state subformula) text.now table.now }
     ensures left { table.now ≡ after (Call.look node state subformula) text.now table.now }
 {
-    store(out, look(text, table, node, state, subformula));
+    store_few(out, look(text, table, node, state, subformula));
 }
 
 // Fills the empty cells of the smallest open subformula, on a settled table: with 0 for an until, with 1 for EG and AG. Own numbers: that
@@ -56,7 +56,7 @@ pub extern "C" fn selahmur_close(text: &[u8], table: &mut [u8], out: &mut [usize
     ensures told { out.new ≡ stored_answer out.old Call.close text.now table.old }
     ensures left { table.new ≡ after Call.close text.now table.old }
 {
-    store(out, close(text, table));
+    store_few(out, close(text, table));
 }
 
 // Rounds until one fills nothing. Own numbers: the verdict, the rounds done, the cells filled.
@@ -66,5 +66,5 @@ pub extern "C" fn selahmur_finish(text: &[u8], table: &mut [u8], out: &mut [usiz
     ensures told { out.new ≡ stored_answer out.old Call.finish text.now table.old }
     ensures left { table.new ≡ after Call.finish text.now table.old }
 {
-    store(out, finish(text, table));
+    store_few(out, finish(text, table));
 }
