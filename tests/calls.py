@@ -71,6 +71,9 @@ EXAMPLES = ROOT / "examples"
 SECONDS = 60
 """How long the library may take for one call."""
 
+BETWEEN = 600
+"""How long the model and the generators may take between two calls."""
+
 SHOWN = 3
 """How many differences are printed in full, those with the shortest texts."""
 
@@ -377,9 +380,10 @@ class Comparison:
     def compare(self, case: Case) -> tuple[list[int], bytes]:
         """Make one call of both and compare them; what the model gives."""
         self.calls += 1
-        keep(self.shared, self.calls, case)
         answer, *after = model(case)
+        keep(self.shared, self.calls, case)
         array, *bytes_now, wrong = self.library.call(case)
+        forget(self.shared)
         if len(answer) != self.widths.get(case.name):
             wrong.append("the header has another count of numbers")
         if array != (answer + unwritten(case.room)[len(answer) :])[: case.room]:
@@ -454,14 +458,19 @@ def keep(shared: mmap.mmap, calls: int, case: Case) -> None:
     shared[16 : 16 + len(noted)] = noted
 
 
-def begun(shared: mmap.mmap) -> int:
-    """How many calls were begun."""
-    return int.from_bytes(shared[:8], "little")
+def forget(shared: mmap.mmap) -> None:
+    """No case is at work any more."""
+    shared[8:16] = bytes(8)
+
+
+def begun(shared: mmap.mmap) -> tuple[int, bool]:
+    """How many calls were begun, and whether the last is still at work."""
+    return int.from_bytes(shared[:8], "little"), any(shared[8:16])
 
 
 def kept(shared: mmap.mmap) -> Case | None:
-    """The last of them, once the process at work has ended: until then it may be
-    written while it is read."""
+    """The call at work, if there is one, once the process has ended: until then it
+    may be written while it is read."""
     length = int.from_bytes(shared[8:16], "little")
     if length == 0:
         return None
@@ -1056,22 +1065,24 @@ def work(chosen: argparse.Namespace, where: pathlib.Path, shared: mmap.mmap) -> 
 
 def watch(child: int, shared: mmap.mmap) -> int:
     """Wait for the process at work; tell the call in which it crashed or hung."""
-    calls, since = 0, time.time()
+    seen, since = begun(shared), time.time()
     while True:
         ended, status = os.waitpid(child, os.WNOHANG)
         if ended and os.WIFEXITED(status):
             return os.WEXITSTATUS(status)
-        if begun(shared) != calls:
-            calls, since = begun(shared), time.time()
-        if ended or time.time() - since > SECONDS:
+        if begun(shared) != seen:
+            seen, since = begun(shared), time.time()
+        calls, at_work = seen
+        limit = SECONDS if at_work else BETWEEN
+        if ended or time.time() - since > limit:
             if not ended:
                 os.kill(child, 9)
                 os.waitpid(child, 0)
-            how = f"signal {os.WTERMSIG(status)}" if ended else f"no end in {SECONDS} s"
+            how = f"signal {os.WTERMSIG(status)}" if ended else f"no end in {limit} s"
             case = kept(shared)
             if case is not None:
                 Difference(case, model(case)[0], [], [how]).show()
-            print(f"{calls} calls; the last one: {how}")
+            print(f"{calls} calls; {'in' if case else 'behind'} the last one: {how}")
             return 1
         time.sleep(0.05)
 
