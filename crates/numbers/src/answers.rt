@@ -77,7 +77,7 @@ impl Own<3> for Outcome {
     }
 }
 
-// An answer that has few numbers of its own: what an array of them asks where it is lent as a slice is said here, and by no caller.
+// An answer with few numbers of its own: that an array of them can be lent as a slice is said here, so that no caller has to say it.
 pub trait Few<const N: usize>: Own<N> {
     ghost few: { N < 65536 };
 }

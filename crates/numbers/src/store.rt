@@ -38,7 +38,7 @@ pub fn store<T: Own<N>, const N: usize>(out: &mut [usize], answer: Result<T, Ref
     put_all(out, 2, &own);
 }
 
-// The same of an answer that has few numbers by a law of its own: nothing is asked. Every call's answer has that law.
+// The same of an answer with few numbers, as every call's is: nothing is asked of the caller.
 #[inline(always)]
 pub fn store_few<T: Few<N>, const N: usize>(out: &mut [usize], answer: Result<T, Refusal>)
     ensures { out.new ≡ stored out.old (numbers (told T.own N answer)) }
